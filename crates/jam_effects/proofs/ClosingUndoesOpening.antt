@@ -1,6 +1,6 @@
 -- Frames that are opened, and closed again where a binding fails.
-use Rattle.std.proofs.Common.{◌≡◌, ◌≢◌, ◌<◌, ◌+◌, ℕ, List, [], ◌∷◌, ◌++◌, length, take, get_or, refl, sym, ap, ◌∙◌, subst, arith}
-use Rattle.std.proofs.lemmas.List.{map_more}
+use Rattle.std.proofs.Common.{◌≡◌, ◌≢◌, ◌<◌, ℕ, List, [], ◌∷◌, ◌++◌, length, refl, sym, ap, ◌∙◌, subst, arith}
+use Rattle.std.proofs.lemmas.List.{map-append}
 use Rattle.jam_journal.specs.Scopes.{Frame, Scopes, Binding, leave, bind, bind_each}
 use Rattle.jam_journal.proofs.ChangesKeepWhatWasMarked.{drop_with}
 use Rattle.jam_journal.proofs.LookupsFindWhatCellsHold.{length_with}
@@ -39,12 +39,12 @@ pub some_frame : (fs : List Frame) (n : ℕ) → n < length fs → fs ≢ []
 some_frame [] n h = absurd (omega (arith, h))
 some_frame (f ∷ fs) n h = λ e. cc
 
-pub bound_more : (bs : List Bound) (at : ℕ) (one : Bound) (first now set : Worlds) → at < length bs → one ≡ get_or bs at one → now ≡ rescoped (bind_each (bindings_of (take at bs))) first
-    → set ≡ rescoped (bind one.name one.value) now → set ≡ rescoped (bind_each (bindings_of (take (at + 1) bs))) first
-bound_more bs at one first now set inside is so_far e =
+pub bound_more : (bs : List Bound) (one : Bound) (first now set : Worlds) → now ≡ rescoped (bind_each (bindings_of bs)) first
+    → set ≡ rescoped (bind one.name one.value) now → set ≡ rescoped (bind_each (bindings_of (bs ++ one ∷ []))) first
+bound_more bs one first now set so_far e =
     e ∙ ap (rescoped (bind one.name one.value)) so_far
-    ∙ ap (λ s. record first { now = record first.now { scopes = s } }) (sym (bind_more (bindings_of (take at bs)) (binding_of one) first.now.scopes))
-    ∙ ap (λ l. rescoped (bind_each l) first) (sym (map_more binding_of bs at one inside ∙ ap (λ b. bindings_of (take at bs) ++ binding_of b ∷ []) (sym is)))
+    ∙ ap (λ s. record first { now = record first.now { scopes = s } }) (sym (bind_more (bindings_of bs) (binding_of one) first.now.scopes))
+    ∙ ap (λ l. rescoped (bind_each l) first) (sym (map-append binding_of bs (one ∷ [])))
 
 pub framed_after : (b : Binding) (now set : Worlds) → set ≡ rescoped (bind b.0 b.1) now → now.now.scopes.frames ≢ [] → set.now.scopes.frames ≢ []
 framed_after b now set e h = subst (λ (ws : Worlds). ws.now.scopes.frames ≢ []) (sym e) (still_framed (b.0, b.1) now.now.scopes.frames h)

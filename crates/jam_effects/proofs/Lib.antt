@@ -14,3 +14,5 @@ pub mod ChangesKeepTheFrames
 pub mod SumsTellWhatFits
 pub mod ChangesGoTextByText
 pub mod RestBeginsWithNextItem
+pub mod CallsTakeTheirLists
+pub mod LentListsDecide

@@ -1,5 +1,5 @@
 -- What the parts of evaluation answer that evaluate nothing.
-use Rattle.std.specs.Prelude.{◌≡◌, ◌⊎◌, List, [], ◌∷◌, ◌++◌, Option, Some, None, Result, Ok, Err}
+use Rattle.std.specs.Prelude.{◌≡◌, ◌⊎◌, List, [], ◌∷◌, ◌++◌, Option, Some, None, Result, Ok, Err, drop}
 use Rattle.b2_base.specs.declared.expand_fault.ExpandFault.{ExpandFault}
 use Rattle.b2_base.specs.declared.expand_fault.ExpandFault.TheVariants as expansions
 use Rattle.b2_base.specs.Results.{and_then}
@@ -30,3 +30,13 @@ named (name ∷ more) (first ∷ rest) = and_then (λ list. Ok (Some (name, list
 abbrev pub named_of : Option Named → Option (Text × List Value)
 named_of None = None
 named_of (Some call) = Some (call.name, call.lists)
+
+-- the lists of a call: further texts come before the first one
+abbrev pub lists_with : Value → List Value → Result (List Value) ExpandFault
+lists_with more [] = Ok (more ∷ [])
+lists_with more (first ∷ rest) = and_then (λ list. Ok (list ∷ rest)) (within (more ++ first))
+
+-- lists with another first one, if there is one
+abbrev pub lists_from : List Value → Option Value → List Value
+lists_from given None = given
+lists_from given (Some first) = first ∷ drop 1 given

@@ -1,14 +1,15 @@
 //! What is called.
-ghost use Rattle.std.specs.Prelude.{◌≡◌, ◌∷◌, ◌++◌, [], IfOk};
+ghost use Rattle.std.specs.Prelude.{◌≡◌, ◌∷◌, ◌++◌, [], IfOk, drop};
 ghost use Rattle.jam_expand.specs.Limits.{within};
 ghost use Rattle.jam_scope.specs.Lines.{find_rule};
-ghost use Rattle.jam_effects.specs.Answers.{IsAnswered, named, named_of};
-ghost use Rattle.jam_effects.specs.Views.{value};
+ghost use Rattle.jam_effects.specs.Answers.{IsAnswered, named, named_of, lists_with, lists_from};
+ghost use Rattle.jam_effects.specs.Views.{value, values};
 ghost use Rattle.jam_effects.specs.Spots.{spot_of};
 
 use crate::at::At;
 use crate::fault::EvalFault;
-use crate::words::join_at;
+use crate::naming::fits;
+use crate::words::{expand_fault, join_at};
 use b2_base::fault::OutOfMemory;
 use b2_base::text::Text;
 use b2_base::text_list::{TextList, copy_texts};
@@ -40,16 +41,61 @@ fn joined(
     Ok(gathered.into_list())
 }
 
-/// A list, and copies of others after it.
-fn before(alloc: Global, first: TextList, rest: &[TextList]) -> Result<TextLists, OutOfMemory>
-    ensures { IfOk result (λ made. made ≡ first ∷ rest.now) }
+/// That texts are not too large.
+fn small(texts: &[Text], at: &At<'_>) -> Result<(), EvalFault>
+    ensures { IsAnswered (λ _. texts.now) (within texts.now) (spot_of at.now) result }
 {
-    let mut made = TextLists::new(alloc);
-    made.push(first)?;
-    for list in rest {
-        made.push(copy_texts(alloc, list.as_slice())?)?;
+    match fits(&[], 0, texts) {
+        Ok(()) => Ok(()),
+        Err(fault) => Err(expand_fault(fault, at)),
     }
-    Ok(made)
+}
+
+/// The first of some lists after further texts; none where it stays as it is.
+fn first_after(
+    alloc: Global,
+    more: &[Text],
+    given: &[TextList],
+    at: &At<'_>,
+) -> Result<Option<TextList>, EvalFault>
+    ensures { IsAnswered (lists_from given.now) (lists_with more.now given.now) (spot_of at.now) result }
+{
+    match given {
+        [] => Ok(Some(copy_texts(alloc, more)?)),
+        [first, ..] if more.is_empty() => {
+            small(first.as_slice(), at)?;
+            Ok(None)
+        }
+        [first, ..] => Ok(Some(joined(alloc, more, first.as_slice(), at)?)),
+    }
+}
+
+/// The lists with another first one.
+fn with_first(given: TextLists, first: TextList) -> Result<TextLists, OutOfMemory>
+    ensures { IfOk result (λ made. made ≡ first ∷ drop 1 given) }
+{
+    let mut lists = given.into_vec();
+    if lists.is_empty() {
+        lists.push(first)?;
+    } else {
+        lists[0] = first;
+    }
+    Ok(TextLists::from_vec(lists))
+}
+
+/// The lists of a call, before the first of which further texts come. Those that stay as they are are not copied.
+fn lists_with(
+    alloc: Global,
+    more: &[Text],
+    given: TextLists,
+    at: &At<'_>,
+) -> Result<TextLists, EvalFault>
+    ensures { IsAnswered values (lists_with more.now given) (spot_of at.now) result }
+{
+    match first_after(alloc, more, given.as_slice(), at)? {
+        None => Ok(given),
+        Some(first) => Ok(with_first(given, first)?),
+    }
 }
 
 /// A call of a name with lists, before the first of which further names come.
@@ -57,16 +103,12 @@ fn call_named(
     alloc: Global,
     name: &Text,
     more: &[Text],
-    given: &[TextList],
+    given: TextLists,
     at: &At<'_>,
 ) -> Result<Named, EvalFault>
-    ensures { IsAnswered (λ call. named_of (Some call)) (named (name.now ∷ more.now) given.now) (spot_of at.now) result }
+    ensures { IsAnswered (λ call. named_of (Some call)) (named (name.now ∷ more.now) given) (spot_of at.now) result }
 {
-    let (first, rest) = match given {
-        [] => (copy_texts(alloc, more)?, given),
-        [first, rest @ ..] => (joined(alloc, more, first.as_slice(), at)?, rest),
-    };
-    let lists = before(alloc, first, rest)?;
+    let lists = lists_with(alloc, more, given, at)?;
     let name = name.copy()?;
     Ok(Named { name, lists })
 }
@@ -75,10 +117,10 @@ fn call_named(
 pub fn named_call(
     alloc: Global,
     names: &[Text],
-    given: &[TextList],
+    given: TextLists,
     at: &At<'_>,
 ) -> Result<Option<Named>, EvalFault>
-    ensures { IsAnswered named_of (named names.now given.now) (spot_of at.now) result }
+    ensures { IsAnswered named_of (named names.now given) (spot_of at.now) result }
 {
     match names {
         [] => Ok(None),

@@ -7,7 +7,7 @@ ghost use Rattle.jam_effects.specs.Framing.{entered, on_entered, loop_entered, c
 
 use b2_base::fault::OutOfMemory;
 use b2_base::text::Text;
-use b2_base::text_list::{TextList, copy_texts};
+use b2_base::text_list::TextList;
 use jam_scope::world::World;
 use jam_values::bindings::Bound;
 use std::alloc::Global;
@@ -66,15 +66,15 @@ pub fn enter_loop(alloc: Global, world: &mut World, name: &Text) -> Result<(), O
     }
 }
 
-/// Binds names in the newest frame. After an error some are bound.
-fn bind_all(alloc: Global, world: &mut World, bindings: &[Bound]) -> Result<(), OutOfMemory>
+/// Binds names in the newest frame to the values themselves. After an error some are bound.
+fn bind_all(world: &mut World, bindings: Vec<Bound>) -> Result<(), OutOfMemory>
     requires { world.old.now.scopes.frames ≢ [] }
-    ensures ok { OnOk result (world.new ≡ rescoped (bind_each (bindings_of bindings.now)) world.old) }
+    ensures ok { OnOk result (world.new ≡ rescoped (bind_each (bindings_of bindings.items)) world.old) }
     ensures err { OnErr result ((bound : List Binding) × (world.new ≡ rescoped (bind_each bound) world.old)) }
 {
     for bound in bindings {
-        let value = copy_texts(alloc, bound.value.as_slice())?;
-        world.bind(bound.name.as_str(), value)?;
+        let Bound { name, value } = bound;
+        world.bind(name.as_str(), value)?;
     }
     Ok(())
 }
@@ -90,18 +90,13 @@ fn open_call(world: &mut World, home: &str) -> Result<(), OutOfMemory>
 }
 
 /// Opens the frame of a call of a rule that belongs to a module, with these bindings.
-pub fn enter_call(
-    alloc: Global,
-    world: &mut World,
-    home: &str,
-    bindings: &[Bound],
-) -> Result<(), OutOfMemory>
-    ensures ok { OnOk result (world.new ≡ call_entered home.now (bindings_of bindings.now) world.old) }
+pub fn enter_call(world: &mut World, home: &str, bindings: Vec<Bound>) -> Result<(), OutOfMemory>
+    ensures ok { OnOk result (world.new ≡ call_entered home.now (bindings_of bindings.items) world.old) }
     ensures newer { OnOk result (frames_at_mark world.new.marked < length world.new.now.scopes.frames) }
     ensures err { OnErr result (world.new ≡ world.old) }
 {
     open_call(world, home)?;
-    match bind_all(alloc, world, bindings) {
+    match bind_all(world, bindings) {
         Ok(()) => Ok(()),
         Err(fault) => {
             world.leave();

@@ -104,7 +104,7 @@ fn sum_of(found: &[Text], size: u64) -> Result<u64, ExpandFault>
 
 /// Whether a list whose size this is is not too large with texts after it. Looks through those texts alone, unless the list itself
 /// is too large.
-fn fits(found: &[Text], size: u64, more: &[Text]) -> Result<(), ExpandFault>
+pub(crate) fn fits(found: &[Text], size: u64, more: &[Text]) -> Result<(), ExpandFault>
     requires { size ≡ capped (size_of found.now) }
     ensures { IsLeftBy result (found.now ++ more.now) (within (found.now ++ more.now)) }
 {

@@ -14,8 +14,8 @@ use b2_base::expand_fault::ExpandFault;
 use b2_base::fault::OutOfMemory;
 use b2_base::text::Text;
 use b2_base::text_list::TextList;
-use jam_expand::expand::expand;
 use jam_expand::limit::Gathered;
+use jam_expand::word::Word;
 use jam_scope::world::World;
 use jam_values::joining::join;
 use std::alloc::Global;
@@ -31,10 +31,10 @@ pub(crate) fn expand_fault(fault: ExpandFault, at: &At<'_>) -> EvalFault
 }
 
 /// The elements of a word in a world, or the fault at its line.
-pub fn word(alloc: Global, world: &World, text: &Text, at: &At<'_>) -> Result<TextList, EvalFault>
-    ensures { IsAnswered value (expansion (look world.now.now.scopes) text.now) (spot_of at.now) result }
+pub fn word(alloc: Global, world: &World, word: &Word, at: &At<'_>) -> Result<TextList, EvalFault>
+    ensures { IsAnswered value (expansion (look world.now.now.scopes) word.now) (spot_of at.now) result }
 {
-    match expand(alloc, text.as_str(), world) {
+    match word.expand(alloc, world) {
         Ok(list) => Ok(list),
         Err(fault) => Err(expand_fault(fault, at)),
     }

@@ -3,11 +3,12 @@ use Rattle.std.proofs.Common.{◌≡◌, ◌<◌, ◌-◌, List, [], ◌∷◌, 
 use Rattle.std.proofs.lemmas.List.{append-nil}
 use Rattle.std.specs.declared.vec.Vec.{Vec}
 use Rattle.std.specs.declared.alloc.Global.{Global}
+use Rattle.b2_base.specs.declared.expand_fault.ExpandFault.{ExpandFault}
 use Rattle.jam_expand.specs.Limits.{within}
 use Rattle.jam_expand.specs.Expansions.{expansion}
 use Rattle.jam_grammar.specs.declared.tree.Arg.{Arg}
 use Rattle.jam_grammar.specs.declared.tree.Inner.{Inner}
-use Rattle.jam_grammar.specs.Trees.{InnerTree, Word, Bracket, arg_tree, inner_tree, args_tree, lists_tree}
+use Rattle.jam_grammar.specs.Trees.{InnerTree, Word, Bracket, NoArgs, ArgAnd, arg_tree, inner_tree, args_tree, lists_tree}
 use Rattle.jam_journal.specs.Tables.{Text}
 use Rattle.jam_journal.specs.Scopes.{Value, look}
 use Rattle.jam_eval.specs.Faults.{Spot, depth}
@@ -15,7 +16,7 @@ use Rattle.jam_eval.specs.States.{State}
 use Rattle.jam_eval.specs.Settings.{Setting}
 use Rattle.jam_eval.specs.Outcomes.{Outcome, gives, faults, then_do, expanded, joined}
 use Rattle.jam_eval.specs.Levels.{Levels}
-use Rattle.jam_eval.specs.Args.{arg, args_after, lists, call_head, inner}
+use Rattle.jam_eval.specs.Args.{arg, args, args_after, lists, call_head, inner}
 use Rattle.jam_effects.specs.declared.at.At.{At}
 use Rattle.jam_effects.specs.declared.fault.EvalFault.{EvalFault}
 use Rattle.jam_effects.specs.Causes.{IsFault}
@@ -29,6 +30,7 @@ use Rattle.jam_eval.specs.Kept.{Begins}
 use Rattle.jam_eval.proofs.RecordsOnlyGrow.{then_begins, same_begins, joined_begins, args_after_begins, lists_begins, call_begins, call_head_begins}
 use Rattle.jam_effects.proofs.OrderedCallsDoAsDefined.{err_then, ok_then, led, leads_then, leads_same, value_now, fault_now}
 use Rattle.jam_effects.proofs.AnswersDoAsDefined.{answer_at, answered, expanded_is, head_is, called_or}
+use Rattle.jam_interp.proofs.ExpansionsAreSmall.{expansion_small}
 use Rattle.jam_interp.proofs.OneLevelLessOrFault.{one_less, no_bracket}
 
 module _ {R : Type 0} where
@@ -63,6 +65,23 @@ module _ {R : Type 0} where
   pub arg_word : (a : Arg) (text : Text) (at : At) (m : Machine R) (result : Result Value EvalFault) → arg_tree a ≡ Word text → IsAnswered value (expansion (look m.worlds.now.scopes) text) (spot_of at) result → Does value (arg_at a at) m m result
   arg_word a text at m result is h =
       does_by value (arg_at a at) (λ setting s. expanded (expansion (look s.worlds.now.scopes) text) (spot_of at) s) m m result (λ setting right. ap (λ tree. arg setting.budget (deep at setting) tree (spot_of at) (state_of m)) is) (word_does text (spot_of at) m result h)
+
+  -- one word is all that there is: what it stands for is not too large
+  word_alone : (answer : Result Value ExpandFault) (place : Spot) (s : State R) → ((v : Value) → answer ≡ Ok v → within v ≡ Ok v)
+      → then_do (expanded answer place s) (λ v. λ s₁. then_do (joined [] v place s₁) (λ more. λ s₂. gives more s₂)) ≡ answer_at answer place s
+  word_alone (Ok v) place s small = ap (λ w. then_do (expanded w place s) (λ more. λ s₂. gives more s₂)) (small v refl)
+  word_alone (Err f) place s small = refl
+
+  -- the arguments where there is one, a word
+  pub one_word : (setting : Setting R) (at : At) (text : Text) (s : State R) → args setting.budget (deep at setting) (ArgAnd (Word text) NoArgs) (spot_of at) s ≡ answer_at (expansion (look s.worlds.now.scopes) text) (spot_of at) s
+  one_word setting at text s = word_alone (expansion (look s.worlds.now.scopes) text) (spot_of at) s (expansion_small (look s.worlds.now.scopes) text)
+
+  pub args_word : (list : List Arg) (text : Text) (at : At) (m : Machine R) (result : Result Value EvalFault) → args_tree list ≡ ArgAnd (Word text) NoArgs → IsAnswered value (expansion (look m.worlds.now.scopes) text) (spot_of at) result
+      → Does value (args_at list at) m m result
+  args_word list text at m result is h =
+      does_by value (args_at list at) (λ setting s. answer_at (expansion (look m.worlds.now.scopes) text) (spot_of at) s) m m result
+      (λ setting right. ap (λ trees. args setting.budget (deep at setting) trees (spot_of at) (state_of m)) is ∙ one_word setting at text (state_of m))
+      (answered value (expansion (look m.worlds.now.scopes) text) (spot_of at) m result h)
 
   pub arg_bracket : (a : Arg) (i : Inner) (at : At) (m n : Machine R) (result : Result Value EvalFault) → arg_tree a ≡ Bracket (inner_tree i) → Does value (bracket_at i at) m n result → Does value (arg_at a at) m n result
   arg_bracket a i at m n result is h = does_by value (arg_at a at) (bracket_at i at) m n result (λ setting right. ap (λ tree. arg setting.budget (deep at setting) tree (spot_of at) (state_of m)) is) h

@@ -1,25 +1,28 @@
 -- What the functions on conditions do, exit by exit.
-use Rattle.std.proofs.Common.{◌≡◌, Bool, true, false, not, List, [], ◌∷◌, Ok, Err, refl, sym, ap, subst}
+use Rattle.std.proofs.Common.{◌≡◌, Bool, true, false, not, List, [], ◌∷◌, Ok, Err, refl, sym, ap, ◌∙◌, subst}
 use Rattle.jam_grammar.specs.declared.tree.Arg.{Arg}
 use Rattle.jam_grammar.specs.declared.tree.Expr.{Expr}
 use Rattle.jam_grammar.specs.Trees as tree
-use Rattle.jam_grammar.specs.Trees.{ExprTree, expr_tree, exprs_tree, arg_tree}
+use Rattle.jam_grammar.specs.Trees.{ArgTree, ArgTrees, ExprTree, expr_tree, exprs_tree, arg_tree, args_tree}
 use Rattle.jam_journal.specs.Scopes.{Value}
 use Rattle.jam_eval.specs.States.{State}
 use Rattle.jam_eval.specs.Settings.{Setting}
-use Rattle.jam_eval.specs.Outcomes.{Outcome, gives, faults, then_do, either}
-use Rattle.jam_eval.specs.Conds.{is_same, expr, any_of, all_of}
+use Rattle.jam_eval.specs.Outcomes.{Outcome, gives, faults, then_do, either, expanded}
+use Rattle.jam_eval.specs.Args.{arg, args}
+use Rattle.jam_eval.specs.Conds.{is_true, is_same, is_within, expr, any_of, all_of}
 use Rattle.jam_effects.specs.declared.at.At.{At}
 use Rattle.jam_effects.specs.declared.fault.EvalFault.{EvalFault}
 use Rattle.jam_effects.specs.Spots.{spot_of}
+use Rattle.jam_effects.specs.Lending.{IsLent, AreLent, IsTruthLent, AreSameLent, AreWithinLent}
 use Rattle.jam_effects.specs.Machines.{Machine, state_of}
 use Rattle.jam_effects.specs.Does.{Does, Leads}
 use Rattle.jam_effects.specs.Views.{value, truth, What}
-use Rattle.jam_interp.specs.Parts.{arg_at, expr_at, any_of_at, all_of_at, same_at, deep}
+use Rattle.jam_interp.specs.Parts.{arg_at, args_at, expr_at, any_of_at, all_of_at, bare_at, same_at, among_at, deep}
 use Rattle.jam_eval.specs.Kept.{Begins}
 use Rattle.jam_eval.proofs.RecordsOnlyGrow.{then_begins, same_begins, either_begins, any_begins, all_begins}
 use Rattle.jam_effects.proofs.OrderedCallsDoAsDefined.{err_then, ok_then, led, leads_then, value_now}
-use Rattle.jam_interp.proofs.ArgumentsDoAsDefined.{does_by}
+use Rattle.jam_effects.proofs.AnswersDoAsDefined.{answer_at}
+use Rattle.jam_interp.proofs.ArgumentsDoAsDefined.{does_by, one_word}
 
 module _ {R : Type 0} where
   -- a condition by its tree
@@ -57,6 +60,33 @@ module _ {R : Type 0} where
       (led truth (λ setting s₁. then_do (right setting s₁) (λ w. λ s₂. gives (test u w) s₂)) (λ setting s. gives (test u v) s) b c c (Ok answer)
       (ok_then value right (λ setting w s₂. gives (test u w) s₂) b c v two)
       (value_now truth (λ setting s. gives (test u v) s) c answer (λ setting right_. ap (λ x. gives x (state_of c)) (sym is))))
+
+  -- ---- lists that are lent
+
+  tree_lent : (setting : Setting R) (at : At) (t : ArgTree) (s : State R) (list : Value) → IsLent s.worlds.now.scopes t list → arg setting.budget (deep at setting) t (spot_of at) s ≡ gives list s
+  tree_lent setting at (tree.Word text) s list h = ap (λ answer. expanded answer (spot_of at) s) h
+  tree_lent setting at (tree.Bracket inner) s list h = absurd h
+
+  trees_lent : (setting : Setting R) (at : At) (ts : ArgTrees) (s : State R) (list : Value) → AreLent s.worlds.now.scopes ts list → args setting.budget (deep at setting) ts (spot_of at) s ≡ gives list s
+  trees_lent setting at tree.NoArgs s list h = absurd h
+  trees_lent setting at (tree.ArgAnd (tree.Word text) tree.NoArgs) s list h = one_word setting at text s ∙ ap (λ answer. answer_at answer (spot_of at) s) h
+  trees_lent setting at (tree.ArgAnd (tree.Bracket inner) tree.NoArgs) s list h = absurd h
+  trees_lent setting at (tree.ArgAnd first (tree.ArgAnd second more)) s list h = absurd h
+
+  arg_lent : (a : Arg) (at : At) (m : Machine R) (list : Value) → IsLent m.worlds.now.scopes (arg_tree a) list → Does value (arg_at a at) m m (Ok list)
+  arg_lent a at m list h = value_now value (arg_at a at) m list (λ setting right. tree_lent setting at (arg_tree a) (state_of m) list h)
+
+  args_lent : (list : List Arg) (at : At) (m : Machine R) (v : Value) → AreLent m.worlds.now.scopes (args_tree list) v → Does value (args_at list at) m m (Ok v)
+  args_lent list at m v h = value_now value (args_at list at) m v (λ setting right. trees_lent setting at (args_tree list) (state_of m) v h)
+
+  pub truth_lent : (a : Arg) (at : At) (m : Machine R) (holds : Bool) → IsTruthLent m.worlds.now.scopes (arg_tree a) holds → Does truth (bare_at a at) m m (Ok holds)
+  truth_lent a at m holds (list, lends, is) = made_ends value (arg_at a at) is_true m m list holds is (arg_lent a at m list lends)
+
+  pub same_lent : (a b : Arg) (at : At) (m : Machine R) (holds : Bool) → AreSameLent m.worlds.now.scopes (arg_tree a) (arg_tree b) holds → Does truth (same_at a b at) m m (Ok holds)
+  same_lent a b at m holds (first, one, (second, two, is)) = two_end is_same (arg_at a at) (arg_at b at) m m m first second holds is (arg_lent a at m first one) (arg_lent b at m second two)
+
+  pub within_lent : (a : Arg) (list : List Arg) (at : At) (m : Machine R) (holds : Bool) → AreWithinLent m.worlds.now.scopes (arg_tree a) (args_tree list) holds → Does truth (among_at a list at) m m (Ok holds)
+  within_lent a list at m holds (texts, one, (others, two, is)) = two_end is_within (arg_at a at) (args_at list at) m m m texts others holds is (arg_lent a at m texts one) (args_lent list at m others two)
 
   -- ---- members of `||`
 

@@ -15,3 +15,4 @@ pub mod RoundsLeadOnOrEnd
 pub mod CodeDoesWhatTreesDo
 pub mod OnlyThreeFormsSetVariables
 pub mod FaultsAreHandedOn
+pub mod ExpansionsAreSmall

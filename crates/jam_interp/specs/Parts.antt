@@ -118,6 +118,9 @@ module _ {R : Type 0} where
   abbrev pub all_of_at : List Expr → At → What R Bool
   all_of_at es at = λ setting s. all_of setting.budget (deep at setting) (exprs_tree es) (spot_of at) s
 
+  abbrev pub bare_at : Arg → At → What R Bool
+  bare_at a at = λ setting s. expr setting.budget (deep at setting) (tree.Bare (arg_tree a)) (spot_of at) s
+
   abbrev pub same_at : Arg → Arg → At → What R Bool
   same_at a b at = λ setting s. expr setting.budget (deep at setting) (tree.Equal (arg_tree a) (arg_tree b)) (spot_of at) s
 

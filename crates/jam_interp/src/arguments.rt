@@ -12,6 +12,7 @@ use b2_host::files::Files;
 use jam_effects::at::{At, NESTED};
 use jam_effects::fault::{EvalCause, EvalFault};
 use jam_effects::frames::enter_target;
+use jam_effects::lending::only_word;
 use jam_effects::turns::Turns;
 use jam_effects::words::{join_at, word};
 use jam_eval::natives::Natives;
@@ -35,7 +36,7 @@ pub(crate) fn arg<N: Natives, F: Files>(
     ensures { DoesOn N.kept N.meaning F.outside value (arg_at arg.now at.now) world.old turns.old natives.old files.old world.new turns.new natives.new files.new result }
 {
     match arg {
-        Arg::Word(text) => word(alloc, world, text, at),
+        Arg::Word(one) => word(alloc, world, one, at),
         Arg::Bracket(inner) => bracket(alloc, world, turns, natives, files, inner, at),
     }
 }
@@ -137,7 +138,8 @@ fn on_return<N: Natives, F: Files>(
     ended
 }
 
-/// The values of arguments, from left to right, each joined to those before it.
+/// The values of arguments, from left to right, each joined to those before it. What one word stands for is not too large, and
+/// is not joined again.
 #[cycle(evaluation)]
 pub(crate) fn args<N: Natives, F: Files>(
     alloc: Global,
@@ -150,6 +152,9 @@ pub(crate) fn args<N: Natives, F: Files>(
 ) -> Result<TextList, EvalFault>
     ensures { DoesOn N.kept N.meaning F.outside value (args_at args.now at.now) world.old turns.old natives.old files.old world.new turns.new natives.new files.new result }
 {
+    if let Some(only) = only_word(args) {
+        return word(alloc, world, only, at);
+    }
     let mut gathered = Gathered::new(alloc);
     'each: for one in args {
         let value = arg(alloc, world, turns, natives, files, one, at)?;

@@ -23,6 +23,7 @@ use jam_scope::rule::Rule;
 use jam_scope::world::World;
 use jam_values::bindings::call_binds;
 use jam_values::conditions::is_true;
+use jam_values::lists::TextLists;
 use std::alloc::Global;
 
 /// A call: its first argument is evaluated, then its lists.
@@ -48,7 +49,7 @@ pub(crate) fn call_of<N: Natives, F: Files>(
         natives,
         files,
         names.as_slice(),
-        values.as_slice(),
+        values,
         at,
     )
 }
@@ -62,10 +63,10 @@ fn call_head<N: Natives, F: Files>(
     natives: &mut N,
     files: &mut F,
     names: &[Text],
-    given: &[TextList],
+    given: TextLists,
     at: &At<'_>,
 ) -> Result<TextList, EvalFault>
-    ensures { DoesOn N.kept N.meaning F.outside value (call_head_at names.now given.now at.now) world.old turns.old natives.old files.old world.new turns.new natives.new files.new result }
+    ensures { DoesOn N.kept N.meaning F.outside value (call_head_at names.now given at.now) world.old turns.old natives.old files.old world.new turns.new natives.new files.new result }
 {
     match named_call(alloc, names, given, at)? {
         None => Ok(TextList::new(alloc)),
@@ -166,7 +167,7 @@ fn run_rule<N: Natives, F: Files>(
     let Some(bindings) = call_binds(alloc, rule.body().params(), given)? else {
         return Err(arity(name, at));
     };
-    enter_call(alloc, world, rule.home(), &bindings)?;
+    enter_call(world, rule.home(), bindings)?;
     let block = rule.body();
     let ended = stmts(
         alloc,
@@ -319,14 +320,5 @@ fn bracket_call<N: Natives, F: Files>(
         levels: at.levels - 1,
     };
     let given = one_list(alloc, item)?;
-    call_head(
-        alloc,
-        world,
-        turns,
-        natives,
-        files,
-        rule,
-        given.as_slice(),
-        &within,
-    )
+    call_head(alloc, world, turns, natives, files, rule, given, &within)
 }

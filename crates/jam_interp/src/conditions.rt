@@ -1,12 +1,13 @@
 //! Conditions.
 ghost use Rattle.jam_effects.specs.Does.{DoesOn};
 ghost use Rattle.jam_effects.specs.Views.{truth};
-ghost use Rattle.jam_interp.specs.Parts.{expr_at, any_of_at, all_of_at, same_at, among_at};
+ghost use Rattle.jam_interp.specs.Parts.{expr_at, any_of_at, all_of_at, bare_at, same_at, among_at};
 
 use crate::arguments::{arg, args};
 use b2_host::files::Files;
 use jam_effects::at::At;
 use jam_effects::fault::EvalFault;
+use jam_effects::lending::{lent_same, lent_true, lent_within};
 use jam_effects::turns::Turns;
 use jam_eval::natives::Natives;
 use jam_grammar::tree::{Arg, Expr};
@@ -36,10 +37,7 @@ pub(crate) fn expr<N: Natives, F: Files>(
             Ok(!holds)
         }
         Expr::Group(test) => within_expr(alloc, world, turns, natives, files, test, at, nested),
-        Expr::Bare(value) => {
-            let value = arg(alloc, world, turns, natives, files, value, at)?;
-            Ok(is_true(value.as_slice()))
-        }
+        Expr::Bare(value) => bare(alloc, world, turns, natives, files, value, at),
         Expr::Equal(left, right) => same(alloc, world, turns, natives, files, left, right, at),
         Expr::Differ(left, right) => {
             let holds = same(alloc, world, turns, natives, files, left, right, at)?;
@@ -115,6 +113,26 @@ fn all_of<N: Natives, F: Files>(
     Ok(true)
 }
 
+/// Whether an argument's list is true.
+#[cycle(evaluation)]
+fn bare<N: Natives, F: Files>(
+    alloc: Global,
+    world: &mut World,
+    turns: &mut Turns,
+    natives: &mut N,
+    files: &mut F,
+    value: &Arg,
+    at: &At<'_>,
+) -> Result<bool, EvalFault>
+    ensures { DoesOn N.kept N.meaning F.outside truth (bare_at value.now at.now) world.old turns.old natives.old files.old world.new turns.new natives.new files.new result }
+{
+    if let Some(holds) = lent_true(world, value) {
+        return Ok(holds);
+    }
+    let value = arg(alloc, world, turns, natives, files, value, at)?;
+    Ok(is_true(value.as_slice()))
+}
+
 /// Whether two arguments have the same list.
 #[cycle(evaluation)]
 fn same<N: Natives, F: Files>(
@@ -129,6 +147,9 @@ fn same<N: Natives, F: Files>(
 ) -> Result<bool, EvalFault>
     ensures { DoesOn N.kept N.meaning F.outside truth (same_at left.now right.now at.now) world.old turns.old natives.old files.old world.new turns.new natives.new files.new result }
 {
+    if let Some(holds) = lent_same(world, left, right) {
+        return Ok(holds);
+    }
     let first = arg(alloc, world, turns, natives, files, left, at)?;
     let second = arg(alloc, world, turns, natives, files, right, at)?;
     Ok(is_same(first.as_slice(), second.as_slice()))
@@ -148,6 +169,9 @@ fn among_list<N: Natives, F: Files>(
 ) -> Result<bool, EvalFault>
     ensures { DoesOn N.kept N.meaning F.outside truth (among_at value.now among.now at.now) world.old turns.old natives.old files.old world.new turns.new natives.new files.new result }
 {
+    if let Some(holds) = lent_within(alloc, world, value, among) {
+        return Ok(holds);
+    }
     let texts = arg(alloc, world, turns, natives, files, value, at)?;
     let others = args(alloc, world, turns, natives, files, among, at)?;
     Ok(is_within(alloc, texts.as_slice(), others.as_slice()))

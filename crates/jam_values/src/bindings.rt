@@ -40,6 +40,9 @@ fn digit(place: usize) -> &'static str
     }
 }
 
+/// Room for what nearly every call binds: the lists of arguments, and a few parameters.
+const ROOM: usize = 16;
+
 /// Adds a binding of a name to copies of texts.
 pub(crate) fn add(
     alloc: Global,
@@ -60,6 +63,7 @@ fn numbered(alloc: Global, given: &[TextList]) -> Result<Vec<Bound>, OutOfMemory
     ensures { IfOk result (λ made. bindings_of made.items ≡ numbered 9 49 given.now) }
 {
     let mut made = Vec::new(alloc);
+    made.reserve_exact(ROOM)?;
     for place in 0..9 {
         add(alloc, &mut made, digit(place), list_at(given, place))?;
     }

@@ -27,7 +27,7 @@ use Rattle.jam_effects.specs.declared.fault.EvalFault.TheVariants as fault
 use Rattle.jam_effects.proofs.WhatEachKeepsAllKeep.{may_leave, stays_same, stays_then}
 use Rattle.jam_effects.proofs.OrderedCallsDoAsDefined.{leads_same, value_now, out_of_memory, weaker}
 use Rattle.jam_effects.proofs.RestBeginsWithNextItem.{next_item}
-use Rattle.jam_interp.proofs.ConditionsDoAsDefined.{made_fails, made_ends, two_first_fails, two_second_fails, two_end, any_fails, any_holds, any_goes, any_none, all_fails, all_fail, all_goes, all_hold, not_fails, not_ends, differ_fails, differ_ends}
+use Rattle.jam_interp.proofs.ConditionsDoAsDefined.{made_fails, made_ends, two_first_fails, two_second_fails, two_end, truth_lent, same_lent, within_lent, any_fails, any_holds, any_goes, any_none, all_fails, all_fail, all_goes, all_hold, not_fails, not_ends, differ_fails, differ_ends}
 use Rattle.jam_interp.proofs.OneLevelLessOrFault.{some_left}
 use Rattle.jam_interp.proofs.CodeDoesWhatTreesDo.{block_holds, test_does, or_does, and_does, form_does, switch_does, other_does, defines, value_given, value_empty}
 use Rattle.jam_interp.proofs.TargetBracketsDoAsDefined.{memory_here, memory_after, memory_led, by_texts, on_inner_fails, on_inner_does, on_return_fails, on_return_does, memory_in}
@@ -35,7 +35,7 @@ use Rattle.jam_interp.proofs.RoundsLeadOnOrEnd.{started_ends_early, rounds_ends_
 use Rattle.jam_interp.proofs.StatementsDoAsDefined.{deeper_deep, deeper_opens, block_does, returned_fails, returned_ends, if_fails, if_then, if_else, started_runs, stmts_fails, stmts_returns, stmts_goes, stmts_end, assign_name_fails, assign_value_fails, assign_refused, assign_ends, rounds_fails, rounds_returns, rounds_goes, rounds_end, switch_fails, switch_none, switch_picks, called_fails, called_ends}
 use Rattle.jam_interp.proofs.FramedStatementsDoAsDefined.{local_names_fail, local_value_fails, local_valued, local_bind_fails, local_ends, own_names_fail, own_named, own_targets_fail, own_placed, own_value_fails, own_made, own_refused, own_ends, include_fails, include_none, include_first, module_fails, module_does, on_fails, on_does, for_fails, for_here, for_own, while_first, while_fails, while_ends, round_fails, round_returns, round_goes}
 use Rattle.jam_interp.proofs.IncludesDoAsDefined.{read_fails, read_leads, included_runs}
-use Rattle.jam_interp.proofs.ArgumentsDoAsDefined.{does_at, gives_at, leads_at, arg_word, arg_bracket, inside_by, bracket_deep, bracket_opens, args_arg_fails, args_end, lists_begin, lists_list_fails, lists_goes, lists_end, call_of_head_fails, call_of_lists_fail, call_of_calls, head_fails, head_none, head_calls}
+use Rattle.jam_interp.proofs.ArgumentsDoAsDefined.{does_at, gives_at, leads_at, arg_word, args_word, arg_bracket, inside_by, bracket_deep, bracket_opens, args_arg_fails, args_end, lists_begin, lists_list_fails, lists_goes, lists_end, call_of_head_fails, call_of_lists_fail, call_of_calls, head_fails, head_none, head_calls}
 use Rattle.jam_interp.proofs.CallsDoAsDefined.{call_ends_early, call_ends_deep, call_turned, applied_rule, applied_none, ruled_fails, ruled_untold, ruled_ends, rule_arity, unruled_untold, unruled_recorded, unruled_fails, unruled_steps, gives_in_call, stepped_unknown, stepped_value, stepped_exit, stepped_filters, stepped_transforms, bracket_call_deep, bracket_call_opens, transformed_fails, transformed_end, filtered_begin, filtered_fails, filtered_end}
 use Rattle.jam_interp.proofs.RulesRunAsDefined.{found_binds, rule_does}
 use Rattle.jam_interp.proofs.FaultsAreHandedOn.{handed_on, handed_on_in_call}
@@ -61,13 +61,8 @@ conditions::expr-returns-in_ok-holds-in-Not g t c =
 pub conditions::expr-returns-in-Group : goal.conditions::expr-returns-in-Group
 conditions::expr-returns-in-Group g t c = test_does c.args.test.now _ c.args.at.now _ _ c.within_expr-in-Group.result (ap expr_tree c.in-Group.is) (rw c.deref-in-Group.ensures at c.within_expr-in-Group.ensures)
 
-pub conditions::expr-returns-in_err-value-in-Bare : goal.conditions::expr-returns-in_err-value-in-Bare
-conditions::expr-returns-in_err-value-in-Bare g t c = handed_on c.from_residual-in_err-value-in-Bare.ensures.1
-    (test_does c.args.test.now _ c.args.at.now _ _ _ (ap expr_tree c.in-Bare.is) (made_fails value (arg_at c.in-Bare.value c.args.at.now) is_true _ _ c.in_err-value-in-Bare.field-0.0 c.in_err-value-in-Bare.ensures))
-
-pub conditions::expr-returns-in_ok-value-in-Bare : goal.conditions::expr-returns-in_ok-value-in-Bare
-conditions::expr-returns-in_ok-value-in-Bare g t c = test_does c.args.test.now _ c.args.at.now _ _ _ (ap expr_tree c.in-Bare.is)
-    (made_ends value (arg_at c.in-Bare.value c.args.at.now) is_true _ _ c.in_ok-value-in-Bare.value c.is_true.result (c.is_true.ensures ∙ ap is_true c.as_slice.ensures) c.in_ok-value-in-Bare.ensures)
+pub conditions::expr-returns-in-Bare : goal.conditions::expr-returns-in-Bare
+conditions::expr-returns-in-Bare g t c = test_does c.args.test.now _ c.args.at.now _ _ c.bare.result (ap expr_tree c.in-Bare.is) c.bare.ensures
 
 pub conditions::expr-returns-in-Equal : goal.conditions::expr-returns-in-Equal
 conditions::expr-returns-in-Equal g t c = test_does c.args.test.now _ c.args.at.now _ _ c.same.result (ap expr_tree c.in-Equal.is) c.same.ensures
@@ -123,6 +118,19 @@ conditions::all_of-each-preserved g t c = all_goes _ _ c.member-item.result _ c.
 pub conditions::all_of-returns : goal.conditions::all_of-returns
 conditions::all_of-returns g t c = all_hold _ _ c.args.at.now _ _ (drop_all c.each.member-index c.args.members.now c.each-test.false) c.each.invariant
 
+pub conditions::bare-returns-in-Some : goal.conditions::bare-returns-in-Some
+conditions::bare-returns-in-Some g t c = truth_lent c.args.value.now c.args.at.now _ c.in-Some.holds c.in-Some.ensures
+
+pub conditions::bare-returns-in_err-value : goal.conditions::bare-returns-in_err-value
+conditions::bare-returns-in_err-value g t c = handed_on c.from_residual.ensures.1 (made_fails value (arg_at c.args.value.now c.args.at.now) is_true _ _ c.in_err-value.field-0.0 c.in_err-value.ensures)
+
+pub conditions::bare-returns : goal.conditions::bare-returns
+conditions::bare-returns g t c =
+    made_ends value (arg_at c.args.value.now c.args.at.now) is_true _ _ c.in_ok-value.value c.is_true.result (c.is_true.ensures ∙ ap is_true c.as_slice.ensures) c.in_ok-value.ensures
+
+pub conditions::same-returns-in-Some : goal.conditions::same-returns-in-Some
+conditions::same-returns-in-Some g t c = same_lent c.args.left.now c.args.right.now c.args.at.now _ c.in-Some.holds c.in-Some.ensures
+
 pub conditions::same-returns-in_err-first : goal.conditions::same-returns-in_err-first
 conditions::same-returns-in_err-first g t c =
     handed_on c.from_residual.ensures.1 (two_first_fails is_same (arg_at c.args.left.now c.args.at.now) (arg_at c.args.right.now c.args.at.now) _ _ c.in_err-first.field-0.0
@@ -135,6 +143,9 @@ conditions::same-returns-in_err-second g t c = handed_on c.from_residual-in_err-
 pub conditions::same-returns : goal.conditions::same-returns
 conditions::same-returns g t c = two_end is_same (arg_at c.args.left.now c.args.at.now) (arg_at c.args.right.now c.args.at.now) _ _ _ c.in_ok-first.first c.in_ok-second.second c.is_same.result
     (c.is_same.ensures ∙ ap (λ v. is_same v c.as_slice-2.result.now) c.as_slice.ensures ∙ ap (is_same c.in_ok-first.first) c.as_slice-2.ensures) c.in_ok-first.ensures c.in_ok-second.ensures
+
+pub conditions::among_list-returns-in-Some : goal.conditions::among_list-returns-in-Some
+conditions::among_list-returns-in-Some g t c = within_lent c.args.value.now c.args.among.now c.args.at.now _ c.in-Some.holds c.in-Some.ensures
 
 pub conditions::among_list-returns-in_err-texts : goal.conditions::among_list-returns-in_err-texts
 conditions::among_list-returns-in_err-texts g t c =
@@ -513,7 +524,7 @@ statements::called-returns g t c = called_ends c.args.head.now c.args.given.now 
 -- ---- arguments
 
 pub arguments::arg-returns-in-Word : goal.arguments::arg-returns-in-Word
-arguments::arg-returns-in-Word g t c = arg_word c.args.arg.now c.in-Word.text c.args.at.now _ c.word.result (ap arg_tree c.in-Word.is) c.word.ensures
+arguments::arg-returns-in-Word g t c = arg_word c.args.arg.now c.in-Word.one c.args.at.now _ c.word.result (ap arg_tree c.in-Word.is) c.word.ensures
 
 pub arguments::arg-returns-in-Bracket : goal.arguments::arg-returns-in-Bracket
 arguments::arg-returns-in-Bracket g t c =
@@ -570,6 +581,9 @@ arguments::on_return-returns g t c = on_return_does c.args.target.now c.args.lis
 pub arguments::on_return-leave-requires : goal.arguments::on_return-leave-requires
 arguments::on_return-leave-requires g t c = may_leave _ _ c.args-ended.ensures.stays c.in_ok-enter_target.ensures.newer
 
+pub arguments::args-returns-in-Some : goal.arguments::args-returns-in-Some
+arguments::args-returns-in-Some g t c = args_word c.args.args.now c.in-Some.only.now c.args.at.now _ c.word.result c.in-Some.ensures c.word.ensures
+
 pub arguments::args-each-init : goal.arguments::args-each-init
 arguments::args-each-init g t c = leads_at (args_at c.args.args.now c.args.at.now) (λ l. args_rest l c.args.args.now c.args.at.now) c.new-gathered.result [] _ _ c.new-gathered.ensures
     (leads_same (args_at c.args.args.now c.args.at.now) (args_rest [] c.args.args.now c.args.at.now) _ (λ setting is. refl))
@@ -621,19 +635,18 @@ calls::call_of-returns-in_err-values g t c =
 
 pub calls::call_of-returns : goal.calls::call_of-returns
 calls::call_of-returns g t c = call_of_calls c.args.head.now c.args.given.now c.args.at.now _ _ _ _ c.in_ok-names.names c.in_ok-values.values c.call_head.result c.in_ok-names.ensures c.in_ok-values.ensures
-    (does_at value (λ names. call_head_at names c.in_ok-values.values c.args.at.now) c.as_slice.result.now c.in_ok-names.names _ _ c.call_head.result c.as_slice.ensures
-    (does_at value (λ given. call_head_at c.as_slice.result.now given c.args.at.now) c.as_slice-2.result.now c.in_ok-values.values _ _ c.call_head.result c.as_slice-2.ensures c.call_head.ensures))
+    (does_at value (λ names. call_head_at names c.in_ok-values.values c.args.at.now) c.as_slice.result.now c.in_ok-names.names _ _ c.call_head.result c.as_slice.ensures c.call_head.ensures)
 
 pub calls::call_head-returns-in_err-named_call : goal.calls::call_head-returns-in_err-named_call
-calls::call_head-returns-in_err-named_call g t c = handed_on c.from_residual.ensures.1 (head_fails named_of c.args.names.now c.args.given.now c.args.at.now _ c.in_err-named_call.field-0.0 c.in_err-named_call.ensures)
+calls::call_head-returns-in_err-named_call g t c = handed_on c.from_residual.ensures.1 (head_fails named_of c.args.names.now c.args.given c.args.at.now _ c.in_err-named_call.field-0.0 c.in_err-named_call.ensures)
 
 pub calls::call_head-returns-in-None : goal.calls::call_head-returns-in-None
 calls::call_head-returns-in-None g t c =
-    gives_at value (call_head_at c.args.names.now c.args.given.now c.args.at.now) _ _ c.new.result [] c.new.ensures (head_none named_of c.args.names.now c.args.given.now c.args.at.now _ _ c.in_ok-named_call.ensures (ap named_of c.in-None.is))
+    gives_at value (call_head_at c.args.names.now c.args.given c.args.at.now) _ _ c.new.result [] c.new.ensures (head_none named_of c.args.names.now c.args.given c.args.at.now _ _ c.in_ok-named_call.ensures (ap named_of c.in-None.is))
 
 pub calls::call_head-returns-in-Some : goal.calls::call_head-returns-in-Some
 calls::call_head-returns-in-Some g t c =
-    head_calls named_of c.args.names.now c.args.given.now c.in-Some.named.lists c.in-Some.named.name c.args.at.now _ _ _ c.call.result c.in_ok-named_call.ensures (ap named_of c.in-Some.is)
+    head_calls named_of c.args.names.now c.args.given c.in-Some.named.lists c.in-Some.named.name c.args.at.now _ _ _ c.call.result c.in_ok-named_call.ensures (ap named_of c.in-Some.is)
     (does_at value (λ given. call_at c.in-Some.named.name given c.args.at.now) c.as_slice.result.now c.in-Some.named.lists _ _ c.call.result c.as_slice.ensures c.call.ensures)
 
 pub calls::call-returns-in_err-take_turn : goal.calls::call-returns-in_err-take_turn
@@ -758,7 +771,7 @@ calls::bracket_call-returns-in_err-given g t c = handed_on c.from_residual.ensur
 pub calls::bracket_call-returns : goal.calls::bracket_call-returns
 calls::bracket_call-returns g t c =
     bracket_call_opens c.args.rule.now c.args.item.now c.args.at.now (record c.args.at.now { levels = c.args.at.now.levels - 1 }) _ _ c.call_head.result (some_left _ c.if-at-eq0.false) refl
-    (does_at value (λ given. call_head_at c.args.rule.now given (record c.args.at.now { levels = c.args.at.now.levels - 1 })) c.as_slice.result.now ((c.args.item.now ∷ []) ∷ []) _ _ c.call_head.result (c.as_slice.ensures ∙ c.in_ok-given.ensures) c.call_head.ensures)
+    (does_at value (λ given. call_head_at c.args.rule.now given (record c.args.at.now { levels = c.args.at.now.levels - 1 })) c.in_ok-given.given ((c.args.item.now ∷ []) ∷ []) _ _ c.call_head.result c.in_ok-given.ensures c.call_head.ensures)
 
 -- ---- a rule that runs
 
@@ -779,9 +792,9 @@ calls::run_rule-returns-in_err-enter_call g t c =
 
 pub calls::run_rule-returns : goal.calls::run_rule-returns
 calls::run_rule-returns g t c =
-    rule_does c.args.rule.now c.args.name.now c.args.given.now c.args.at.now c.body.result.now c.params.result.now c.in_ok-bindings.field-0 c.in-Some.bindings c.deref.result.now c.home.result.now c.body-block.result.now c.block.result.now c.as_slice.result.now c.path.result.now
+    rule_does c.args.rule.now c.args.name.now c.args.given.now c.args.at.now c.body.result.now c.params.result.now c.in_ok-bindings.field-0 c.in-Some.bindings c.in-Some.bindings.items c.home.result.now c.body-block.result.now c.block.result.now c.as_slice.result.now c.path.result.now
     (machine c.args.world.now c.args.turns.now (g.N.Natives.kept c.args.natives.now) (g.N.Natives.meaning c.args.natives.now) (g.F.Files.outside c.args.files.now)) c.enter_call.new.world
     (machine c.stmts-ended.new.world c.stmts-ended.new.turns (g.N.Natives.kept c.stmts-ended.new.natives) (g.N.Natives.meaning c.stmts-ended.new.natives) (g.F.Files.outside c.stmts-ended.new.files)) c.leave.new.self
     c.stmts-ended.result c.value_of.result
-    c.body.ensures c.params.ensures c.in_ok-bindings.ensures c.in-Some.is c.deref.ensures.value c.home.ensures c.body-block.ensures c.block.ensures c.as_slice.ensures.value c.path.ensures
+    c.body.ensures c.params.ensures c.in_ok-bindings.ensures c.in-Some.is refl c.home.ensures c.body-block.ensures c.block.ensures c.as_slice.ensures.value c.path.ensures
     c.in_ok-enter_call.ensures.ok c.stmts-ended.ensures c.leave.ensures c.value_of.ensures

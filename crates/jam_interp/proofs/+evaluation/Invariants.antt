@@ -69,6 +69,9 @@ decreases-conditions::any_of g l = 5000 * (l.turns.now.left + l.at.now.levels) +
 abbrev pub decreases-conditions::all_of : goal.decreases-conditions::all_of
 decreases-conditions::all_of g l = 5000 * (l.turns.now.left + l.at.now.levels) + (4 + 4 * l.nested)
 
+abbrev pub decreases-conditions::bare : goal.decreases-conditions::bare
+decreases-conditions::bare g l = 5000 * (l.turns.now.left + l.at.now.levels) + (2)
+
 abbrev pub decreases-conditions::same : goal.decreases-conditions::same
 decreases-conditions::same g l = 5000 * (l.turns.now.left + l.at.now.levels) + (3)
 

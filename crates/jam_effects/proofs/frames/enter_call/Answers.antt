@@ -16,4 +16,4 @@ returns-in-Err-clause-err c =
     c.in_ok-open_call.ensures.ok c.in-Err.ensures.err.1 c.leave.ensures
 
 pub returns-in-Ok-clause-newer : goal.returns-in-Ok-clause-newer
-returns-in-Ok-clause-newer c = may_close (bindings_of c.args.bindings.now) c.open_call.new.world c.bind_all.new.world c.in-Ok.ensures.ok c.in_ok-open_call.ensures.newer
+returns-in-Ok-clause-newer c = may_close (bindings_of c.args.bindings.items) c.open_call.new.world c.bind_all.new.world c.in-Ok.ensures.ok c.in_ok-open_call.ensures.newer

@@ -7,5 +7,5 @@ use Rattle.jam_effects.proofs.words.word.Goals as goal
 
 pub returns-in-Err : goal.returns-in-Err
 returns-in-Err c =
-    answered_err value (expansion (look c.args.world.now.now.scopes) c.args.text.now) c.in-Err.fault (spot_of c.args.at.now) c.expand_fault.result
-    (rw c.as_str.ensures.value at c.in-Err.ensures.exact) c.expand_fault.ensures
+    answered_err value (expansion (look c.args.world.now.now.scopes) c.args.word.now) c.in-Err.fault (spot_of c.args.at.now) c.expand_fault.result
+    c.in-Err.ensures c.expand_fault.ensures
