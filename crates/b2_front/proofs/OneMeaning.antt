@@ -22,7 +22,7 @@ use Rattle.b2_generate.specs.Answers.{Row}
 use Rattle.b2_generate.specs.Faults.{Fault}
 use Rattle.b2_generate.specs.Laws.{OnePlan}
 use Rattle.b2_generate.specs.Planning.{Planned}
-use Rattle.b2_testing.specs.Texts.{testing_text}
+use Rattle.b2_testing_text.specs.Texts.{testing_text}
 use Rattle.b2_testing.specs.Adding.{with_tests, markers_from}
 use Rattle.b2_testing.specs.Readying.{text_setting, walk_in, IsEquippedFor}
 use Rattle.b2_testing.specs.Requested.{marker_path, is_at, is_marker, test_at, test_of_row, requested}

@@ -5,6 +5,7 @@ pub mod LeadingIsReached
 pub mod LeadingIsDecided
 pub mod VerdictsAreTold
 pub mod RowsAskForTests
+pub mod AskedTestsAreNeeded
 pub mod PassedTestsStand
 pub mod AddedTargetsAreSound
 pub mod TextRunsInTheWorld

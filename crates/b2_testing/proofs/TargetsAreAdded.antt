@@ -1,5 +1,6 @@
 -- Main targets are added one after another behind the others, those of each test after those of the tests before it.
-use Rattle.std.proofs.Common.{◌≡◌, ◌≢◌, ℕ, zero, suc, ◌<◌, List, [], ◌∷◌, ◌++◌, take, drop, length, refl, sym, ◌∙◌, ap, subst, append_assoc, arith}
+use Rattle.std.proofs.Common.{◌≡◌, ◌≢◌, ℕ, zero, suc, ◌<◌, List, [], ◌∷◌, ◌++◌, take, drop, length, refl, sym, ◌∙◌, ap, subst, append_assoc, arith, Bool, true, false, ◌==◌, Result, Ok, Err, OnOk, OnErr}
+use Rattle.std.proofs.lemmas.Bool.{true≢false}
 use Rattle.std.specs.List.{flat_map}
 use Rattle.std.proofs.lemmas.List.{append-nil}
 use Rattle.jam_scope.specs.Worlds.{Worlds}
@@ -7,6 +8,9 @@ use Rattle.b2_metatargets.specs.declared.place.Target.{Target}
 use Rattle.b2_metatargets.specs.declared.place.TestCall.{TestCall}
 use Rattle.b2_project.specs.declared.project.Project.{Project}
 use Rattle.b2_testing.specs.Adding.{added, with_tests}
+use Rattle.b2_testing_text.specs.Definitions.{definitions, equipped, IsPart}
+use Rattle.b2_testing_text.proofs.DefinitionsKeepTheRest.{whole_part}
+use Rattle.b2_testing.proofs.TextRunsInTheWorld.{is_equipped}
 use Rattle.b2_testing.specs.Readying.{IsEquipped, IsEquippedFor, LeavesReady, LeavesPart, AddsTargets, AddsPart, added_at}
 
 -- ---- some targets
@@ -84,36 +88,58 @@ equipped_for : (tests : List TestCall) (before after : Worlds) → tests ≢ [] 
 equipped_for [] before after some is = absurd (some refl)
 equipped_for (t ∷ ts) before after some is = is
 
--- the text has run, and all of them stand
-pub ready_with : (p r : Project) (world : Worlds) → p.declared.tests ≢ [] → IsEquipped p.world world → AddsTargets (record p { world = world }) (flat_map added p.declared.tests) r → LeavesReady p r
+-- the text has left its definitions, and all of them stand
+pub ready_with : (p r : Project) (world : Worlds) → p.declared.tests ≢ [] → world ≡ equipped p.world → AddsTargets (record p { world = world }) (flat_map added p.declared.tests) r → LeavesReady p r
 ready_with p r world some is adds = record {
   ready = record {
-    worlds = equipped_for p.declared.tests p.world r.world some (subst (IsEquipped p.world) (sym (ap (λ (x : Project). x.world) adds)) is);
+    worlds = equipped_for p.declared.tests p.world r.world some (subst (IsEquipped p.world) (sym (ap (λ (x : Project). x.world) adds)) (is_equipped p.world world is));
     declared = ap (λ (x : Project). x.declared) adds;
   };
   natives = ap (λ (x : Project). x.natives) adds;
 }
 
--- the text has run, and some of them stand
-pub part_with : (p r : Project) (world : Worlds) → p.declared.tests ≢ [] → IsEquipped p.world world → AddsPart (record p { world = world }) (flat_map added p.declared.tests) r → LeavesPart p r
-part_with p r world some is part = record {
-  tested = some;
-  some_first = part.some_first;
-  rest = part.rest;
-  first_part = part.first_part;
-  declared = ap (λ (x : Project). x.declared) part.added;
-  world = λ ne. subst (IsEquipped p.world) (sym (ap (λ (x : Project). x.world) part.added)) is;
-  natives = ap (λ (x : Project). x.natives) part.added;
-}
+-- the text has left its definitions, and some of them stand
+pub part_with : (p r : Project) (world : Worlds) → p.declared.tests ≢ [] → world ≡ equipped p.world → AddsPart (record p { world = world }) (flat_map added p.declared.tests) r → LeavesPart p r
+part_with p r world some is part =
+    let same : r.world ≡ equipped p.world = ap (λ (x : Project). x.world) part.added ∙ is in
+    record {
+      tested = some;
+      some_first = part.some_first;
+      rest = part.rest;
+      first_part = part.first_part;
+      declared = ap (λ (x : Project). x.declared) part.added;
+      world = whole_part p.world r.world same;
+      whole = λ ne. is_equipped p.world r.world same;
+      natives = ap (λ (x : Project). x.natives) part.added;
+    }
 
--- the text was stopped
-pub part_unequipped : (p : Project) (world : Worlds) → p.declared.tests ≢ [] → LeavesPart p (record p { world = world })
-part_unequipped p world some = record {
+-- some of its definitions were made
+pub part_defined : (p : Project) (world : Worlds) → p.declared.tests ≢ [] → IsPart definitions p.world world → LeavesPart p (record p { world = world })
+part_defined p world some part = record {
   tested = some;
   some_first = [];
   rest = flat_map added p.declared.tests;
   first_part = refl;
   declared = ap (λ (x : Project). x.declared) (adds_none p);
-  world = λ ne. absurd (ne refl);
+  world = part;
+  whole = λ ne. absurd (ne refl);
   natives = refl;
 }
+
+-- ---- as the code answers
+
+pub some_tests : (tests slice : List TestCall) (empty : Bool) → slice ≡ tests → empty ≡ (length slice == 0) → empty ≡ false → tests ≢ []
+some_tests tests slice empty same is not_so e = true≢false (sym (is ∙ ap (λ (l : List TestCall). length l == 0) (same ∙ e)) ∙ not_so)
+
+pub all_added : {E : Type 0} (result : Result (Unit {0}) E) (p r : Project) (world : Worlds) → p.declared.tests ≢ [] → world ≡ equipped p.world → OnOk result (AddsTargets (record p { world = world }) (flat_map added p.declared.tests) r) → OnOk result (LeavesReady p r)
+all_added (Ok u) p r world some is adds = ready_with p r world some is adds
+all_added (Err e) p r world some is adds = tt
+
+pub part_added : {E : Type 0} (result : Result (Unit {0}) E) (p r : Project) (world : Worlds) → p.declared.tests ≢ [] → world ≡ equipped p.world → OnErr result (AddsPart (record p { world = world }) (flat_map added p.declared.tests) r) → OnErr result (LeavesPart p r)
+part_added (Ok u) p r world some is part = tt
+part_added (Err e) p r world some is part = part_with p r world some is part
+
+-- the world stays while targets are added, whether all of them are
+pub world_stays : {E : Type 0} (result : Result (Unit {0}) E) (p r : Project) (more : List Target) → OnOk result (AddsTargets p more r) → OnErr result (AddsPart p more r) → r.world ≡ p.world
+world_stays (Ok u) p r more ok err = ap (λ (x : Project). x.world) ok
+world_stays (Err e) p r more ok err = ap (λ (x : Project). x.world) err.added

@@ -43,3 +43,7 @@ MarkersAreLast = (d : Declared) (place : ℕ) → Contains (markers d) place →
 -- each test that is asked for is asked for by a row of the table
 abbrev pub AskedByRows : Type 0
 AskedByRows = (d : Declared) (rows : List Row) (steps : List Step) (wanted : List (List ℕ)) (test : List ℕ × ℕ) → Contains (requested d rows steps wanted) test → (row : Row) × Contains rows row × IsAskedBy d steps wanted test row
+
+-- the step of a test that is asked for is needed, whatever has happened
+abbrev pub AskedAreNeeded : Type 0
+AskedAreNeeded = (u : Update) (events : List ChildEvent) (d : Declared) (test : List ℕ × ℕ) (row : Row) → IsAskedBy d u.build.steps u.build.wanted test row → Needed u events test.1

@@ -1,4 +1,11 @@
-pub mod Texts
+-- What the files define.
+-- `Adding`: the main targets of tests
+-- `Readying`: what stands before a request is read
+-- `Requested`: the tests that a plan asks for
+-- `Verdicts`: what an update made of them, and the lines
+-- `Laws`: what follows
+-- `Asking`, `Leading`: what the code keeps
+
 pub mod Adding
 pub mod Readying
 pub mod Requested

@@ -1,6 +1,6 @@
 //! The build text of the rules that run tests.
 ghost use Rattle.std.specs.Prelude.{◌≡◌};
-ghost use Rattle.b2_testing.specs.Texts.{testing_text};
+ghost use Rattle.b2_testing_text.specs.Texts.{testing_text};
 
 /// The text.
 static TEXT: &str = r#"module gcc { rule command { return $(COMMAND) ; } }

@@ -1,0 +1,7 @@
+pub mod PiecesAreTokens
+pub mod TokensSpellTheTree
+pub mod TextIsItsPieces
+pub mod TextReadsInOneWay
+pub mod TextRunsToItsEnd
+pub mod DefinitionsAreMadeInTurn
+pub mod DefinitionsKeepTheRest
