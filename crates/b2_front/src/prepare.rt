@@ -33,6 +33,7 @@ use jam_effects::turns::Turns;
 use jam_scope::world::World;
 use std::alloc::Global;
 use std::marker::Brand;
+use std::mem::forget;
 
 /// The turns that all files of a load share.
 const LOAD_TURNS: u32 = 1_000_000;
@@ -163,7 +164,8 @@ fn ask_equipped<F: Files>(alloc: Global, words: &[Text], project: Project, files
     drop(natives);
     let planned = ask(alloc, words, &declared, world, files);
     let asked = with_requested(alloc, &declared, planned);
-    drop(declared);
+    // Not taken apart, which would cost time. The program loads once as a rule, and a session keeps what each load left.
+    forget(declared);
     asked
 }
 

@@ -2,6 +2,7 @@
 ghost use Rattle.std.specs.Prelude.{◌≡◌, None};
 
 use jam_scope::world::World;
+use std::mem::forget;
 
 /// A world in which no step is open.
 #[derive(Drop)]
@@ -11,8 +12,10 @@ pub struct LoadedWorld {
 }
 
 impl LoadedWorld {
-    /// One call, whoever drops it.
-    pub(crate) fn drop_world(self) {
-        let LoadedWorld { world: _world } = self;
+    /// The world is not taken apart, which would cost time. The program loads once as a rule, and a session keeps what each load
+    /// left until the program ends.
+    pub(crate) fn leave_world(self) {
+        let LoadedWorld { world } = self;
+        forget(world);
     }
 }

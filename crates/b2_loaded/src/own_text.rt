@@ -183,7 +183,7 @@ impl<'a, F: Files, S: Entry> OwnText<'a, F, S> {
             host,
             refused: _refused,
         } = self;
-        loaded.drop_world();
+        loaded.leave_world();
         host.into_files()
     }
 }

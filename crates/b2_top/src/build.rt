@@ -24,6 +24,7 @@ use b2_update::update::update;
 use b2_update::update_answer::UpdateAnswer;
 use b2_words::words::BuildOptions;
 use std::alloc::Global;
+use std::mem::forget;
 
 /// How an update is asked for by the options of a build.
 fn options_of(options: BuildOptions) -> Options
@@ -119,15 +120,20 @@ pub fn build<H: Children, S: Sink>(
         tests,
     } = prepare(alloc, command.words.as_slice(), host);
     match result {
-        Ok(planned) => run_plan(
-            alloc,
-            echoes.as_slice(),
-            &planned.plan,
-            tests.as_slice(),
-            options,
-            host,
-            out,
-        ),
+        Ok(planned) => {
+            let answer = run_plan(
+                alloc,
+                echoes.as_slice(),
+                &planned.plan,
+                tests.as_slice(),
+                options,
+                host,
+                out,
+            );
+            // Not taken apart, which would cost time. The program plans once as a rule, and a session keeps each plan.
+            forget(planned);
+            answer
+        }
         Err(stop) => tell_stop(alloc, echoes.as_slice(), stop, out),
     }
 }

@@ -1,6 +1,11 @@
 //! The commands of the program, from the words of the command line to the answer: a build, whose plan is carried out; a look, which
 //! prints the steps or the table of a plan; an explanation, which tells why steps are to run; and cleaning, which removes what they
 //! have made.
+//!
+//! # What is proved
+//!
+//! - `run_b2`, `show_b2`, `explain_b2` and `clean_b2` keep what docs/PROMISES.md promises of them.
+//! - The status of each answer is exact.
 #![tactic(auto)]
 
 pub mod answer;

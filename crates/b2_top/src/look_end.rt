@@ -15,6 +15,7 @@ use b2_host::sink::Sink;
 use b2_planning::planned::Planned;
 use b2_words::words::View;
 use std::alloc::Global;
+use std::mem::forget;
 
 /// Writes the report of a look at a plan.
 fn tell_look<S: Sink>(
@@ -43,7 +44,12 @@ pub fn tell<S: Sink>(alloc: Global, view: View, prepared: Prepared, out: &mut S)
         tests: _tests,
     } = prepared;
     match result {
-        Ok(planned) => tell_look(alloc, view, echoes.as_slice(), &planned, out),
+        Ok(planned) => {
+            let answer = tell_look(alloc, view, echoes.as_slice(), &planned, out);
+            // Not taken apart, which would cost time. The program plans once as a rule, and a session keeps each plan.
+            forget(planned);
+            answer
+        }
         Err(stop) => tell_stop(alloc, echoes.as_slice(), stop, out),
     }
 }

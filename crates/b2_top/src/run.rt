@@ -58,8 +58,9 @@ fn answer<H: Children, S: Sink>(alloc: Global, words: &[Text], host: &mut H, out
 /// Builds what the words ask for in the project that its files describe. The projects are loaded, the request is read
 /// and planned, the lines of ECHO are written, and the needed steps that are stale run, inputs before outputs: with
 /// `-jN` up to N at a time. With `-a` all that is needed runs, with `-q` nothing starts after a failure, and with
-/// `--by=digest` judging is by digests. Words that are no build, a look and a drill among them, are answered by the
-/// usage line.
+/// `--by=digest` judging is by digests. Where the update came to its end, the lines of tests end its report. Words that
+/// are no build are answered by the usage line. Such words are those of a look, an explanation, cleaning and a drill
+/// too.
 pub fn run_b2<H: Children, S: Sink>(
     alloc: Global,
     words: &[Text],

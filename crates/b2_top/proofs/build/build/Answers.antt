@@ -14,17 +14,17 @@ use Rattle.b2_top.proofs.FaultsCountFromEarlier.{left_from}
 use Rattle.b2_top.proofs.BuildsAnswerAsPromised.{run_of, stopped}
 use Rattle.b2_top.proofs.build.build.Goals as goal
 
-pub run_plan-requires-clause-idle : goal.run_plan-requires-clause-idle
-run_plan-requires-clause-idle g c = ap (λ (f : Family). f.running) c.prepare-echoes.ensures.children ∙ c.requires.idle
+pub run_plan-answer-requires-clause-idle : goal.run_plan-answer-requires-clause-idle
+run_plan-answer-requires-clause-idle g c = ap (λ (f : Family). f.running) c.prepare-echoes.ensures.children ∙ c.requires.idle
 
 pub returns-in-Ok-clause-builds : goal.returns-in-Ok-clause-builds
 returns-in-Ok-clause-builds g c = λ words asked.
     let made = g.H.Children.made in
     let h0 = g.H.Files.outside c.args.host.now in
     let h1 = g.H.Files.outside c.prepare-echoes.new.files in
-    let h2 = g.H.Files.outside c.run_plan.new.host in
+    let h2 = g.H.Files.outside c.run_plan-answer.new.host in
     let o0 = g.S.Sink.output c.args.out.now in
-    let o2 = g.S.Sink.output c.run_plan.new.out in
+    let o2 = g.S.Sink.output c.run_plan-answer.new.out in
     let echoes = c.prepare-echoes.result.echoes in
     let planned = c.in-Ok.planned in
     let command = c.args.command.now in
@@ -35,22 +35,22 @@ returns-in-Ok-clause-builds g c = λ words asked.
     let asks = subst (λ (r : Result Planned Stop). IfSome h0.disk (λ (disk : Disk). TestsTold disk command.words r tests)) c.in-Ok.is words_asked in
     let apart = subst (λ (r : Result Planned Stop). IfOk r (λ (p : Planned). Apart p.plan.steps p.plan.roots)) c.in-Ok.is c.prepare-echoes.ensures.apart in
     let same = subst (λ (r : Result Planned Stop). Counts r h0 h1) c.in-Ok.is c.prepare-echoes.ensures.counts in
-    let run = subst (λ (lines : List (List ℕ)). Runs made lines c.options_of-options.result planned.plan c.as_slice-in-Ok-2.result.now (moment h1 o0) (moment h2 o2) c.run_plan.result) c.as_slice-in-Ok.ensures c.run_plan.ensures.runs in
-    let tests_so = subst (λ (ts : List (List ℕ × ℕ)). Runs made echoes c.options_of-options.result planned.plan ts (moment h1 o0) (moment h2 o2) c.run_plan.result) c.as_slice-in-Ok-2.ensures.value run in
-    let asked_so = subst (λ (o : Options). Runs made echoes o planned.plan tests (moment h1 o0) (moment h2 o2) c.run_plan.result) c.options_of-options.ensures tests_so in
+    let run = subst (λ (lines : List (List ℕ)). Runs made lines c.options_of-options.result planned.plan c.as_slice-in-Ok-2.result.now (moment h1 o0) (moment h2 o2) c.run_plan-answer.result) c.as_slice-in-Ok.ensures c.run_plan-answer.ensures.runs in
+    let tests_so = subst (λ (ts : List (List ℕ × ℕ)). Runs made echoes c.options_of-options.result planned.plan ts (moment h1 o0) (moment h2 o2) c.run_plan-answer.result) c.as_slice-in-Ok-2.ensures.value run in
+    let asked_so = subst (λ (o : Options). Runs made echoes o planned.plan tests (moment h1 o0) (moment h2 o2) c.run_plan-answer.result) c.options_of-options.ensures tests_so in
     run_of c.one_meaning.ensures made words command asked h0 h1 o0 c.requires.idle echoes c.prepare-echoes.ensures.disk c.prepare-echoes.ensures.children
-    planned tests told asks apart same c.prepare-echoes.ensures.keeps h2 o2 c.run_plan.result asked_so
+    planned tests told asks apart same c.prepare-echoes.ensures.keeps h2 o2 c.run_plan-answer.result asked_so
 
 pub returns-in-Ok-clause-none_left : goal.returns-in-Ok-clause-none_left
 returns-in-Ok-clause-none_left g c =
     let h0 = g.H.Files.outside c.args.host.now in
     let h1 = g.H.Files.outside c.prepare-echoes.new.files in
-    let h2 = g.H.Files.outside c.run_plan.new.host in
+    let h2 = g.H.Files.outside c.run_plan-answer.new.host in
     let keeps = c.prepare-echoes.ensures.keeps in
-    left_from h0 h1 h2 keeps.faults keeps.risks keeps.waits c.run_plan.ensures.none_left
+    left_from h0 h1 h2 keeps.faults keeps.risks keeps.waits c.run_plan-answer.ensures.none_left
 
 pub returns-in-Ok-clause-keeps : goal.returns-in-Ok-clause-keeps
-returns-in-Ok-clause-keeps g c = keeps_then _ _ _ c.prepare-echoes.ensures.keeps c.run_plan.ensures.keeps
+returns-in-Ok-clause-keeps g c = keeps_then _ _ _ c.prepare-echoes.ensures.keeps c.run_plan-answer.ensures.keeps
 
 pub returns-clause-builds : goal.returns-clause-builds
 returns-clause-builds g c = λ words asked.
