@@ -1,1 +1,4 @@
+-- What the files define.
+-- `Laws`: a call that asks for the same again
+
 pub mod Laws

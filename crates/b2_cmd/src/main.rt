@@ -1,4 +1,8 @@
 //! The program `b2`.
+//!
+//! # What is proved
+//!
+//! `main` is safe and meets the conditions of what it calls. Nothing else is proved of it.
 #![tactic(auto)]
 
 use b2_program::command_line::words_of;

@@ -1,2 +1,6 @@
+-- What the files define.
+-- `Asked`: which drill words ask for
+-- `Drilled`: what a drill comes to, and what its answer says
+
 pub mod Asked
 pub mod Drilled
