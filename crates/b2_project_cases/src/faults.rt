@@ -13,7 +13,8 @@ fn put_place(answer: &mut Answer, path: &str, line: u32) {
     answer.put_between(":", line as u64, ": ");
 }
 
-fn put_syntax_fault(answer: &mut Answer, path: &str, line: u32, found: &str) {
+/// Puts what a fault of syntax says, with the line of the token.
+pub fn put_syntax_fault(answer: &mut Answer, path: &str, line: u32, found: &str) {
     put_place(answer, path, line);
     let found = if found.is_empty() {
         "end of file"
@@ -29,7 +30,7 @@ fn put_at_line(answer: &mut Answer, path: &str, line: u32, text: &str) {
 }
 
 /// Puts what a fault of tokens says, with the line of the open quote or body.
-fn put_lex_fault(answer: &mut Answer, path: &str, fault: &LexFault) {
+pub fn put_lex_fault(answer: &mut Answer, path: &str, fault: &LexFault) {
     match fault {
         LexFault::NotUtf8 { at } => {
             answer.put(path);
@@ -41,7 +42,8 @@ fn put_lex_fault(answer: &mut Answer, path: &str, fault: &LexFault) {
     }
 }
 
-fn put_size(answer: &mut Answer, path: &str, size: u64) {
+/// Puts how many bytes a file has, which are too many.
+pub fn put_size(answer: &mut Answer, path: &str, size: u64) {
     answer.put(path);
     answer.put_between(" has ", size, " bytes");
 }
@@ -59,7 +61,8 @@ fn put_caused(answer: &mut Answer, path: &str, line: u32, cause: &EvalCause) {
     }
 }
 
-fn put_eval_fault(answer: &mut Answer, fault: &EvalFault) {
+/// Puts what a fault says with which a file's run ended.
+pub fn put_eval_fault(answer: &mut Answer, fault: &EvalFault) {
     match fault {
         EvalFault::Host => answer.put("host fault"),
         EvalFault::OutOfMemory => answer.cut(),

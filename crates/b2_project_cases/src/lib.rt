@@ -21,8 +21,8 @@
 //! - `decls` shows the recorded calls with their lines.
 #![tactic(auto)]
 
-mod faults;
-mod host;
+pub mod faults;
+pub mod host;
 mod load;
 mod projects;
 pub mod session;

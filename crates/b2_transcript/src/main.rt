@@ -8,6 +8,7 @@
 //! - `properties`, `refinement`: b2_props_cases.
 //! - `declarations`, `references`, `outputs`, `conversions`: b2_conversions_cases.
 //! - `loads`: b2_project_cases.
+//! - `graph`: jam_engine_cases.
 //! - `memory`, `real`: b2_cases. The part `real` works in the folder that begins with the files of `data/`.
 #![tactic(auto)]
 

@@ -17,6 +17,7 @@ pub enum Part {
     Outputs,
     Conversions,
     Loads,
+    Graph,
     Memory,
     Real,
 }
@@ -46,6 +47,7 @@ impl Part {
             "outputs" => Ok(Part::Outputs),
             "conversions" => Ok(Part::Conversions),
             "loads" => Ok(Part::Loads),
+            "graph" => Ok(Part::Graph),
             "memory" => Ok(Part::Memory),
             "real" => Ok(Part::Real),
             _ => Err(CaseFault::WrongWords),

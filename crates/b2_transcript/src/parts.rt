@@ -15,6 +15,7 @@ use b2_project_cases::session::Loads;
 use b2_props_cases::properties::Properties;
 use b2_props_cases::refinement::Refinement;
 use jam_cases::session::Language;
+use jam_engine_cases::session::Graphs;
 use jam_interp_cases::evaluation::session::Evaluation;
 use jam_interp_cases::world::session::Scene;
 use std::alloc::Global;
@@ -41,6 +42,7 @@ pub struct Parts<R: System> {
     outputs: ManuallyDrop<Outputs>,
     conversions: ManuallyDrop<Conversions>,
     loads: ManuallyDrop<Loads>,
+    graph: ManuallyDrop<Graphs>,
     memory: ManuallyDrop<InMemory>,
     real: ManuallyDrop<OnSystem<R>>,
 }
@@ -62,6 +64,7 @@ impl<R: System> Parts<R> {
             outputs: ManuallyDrop::new(Outputs::new(alloc)),
             conversions: ManuallyDrop::new(Conversions::new(alloc)),
             loads: ManuallyDrop::new(Loads::new(alloc)?),
+            graph: ManuallyDrop::new(Graphs::new(alloc)?),
             memory: ManuallyDrop::new(InMemory::new(alloc)?),
             real: ManuallyDrop::new(OnSystem::new(rt)),
         })
@@ -82,6 +85,7 @@ impl<R: System> Parts<R> {
             Part::Outputs => self.outputs.carry_out(alloc, command),
             Part::Conversions => self.conversions.carry_out(alloc, command),
             Part::Loads => self.loads.carry_out(alloc, command),
+            Part::Graph => self.graph.carry_out(alloc, command),
             Part::Memory => self.memory.carry_out(alloc, command),
             Part::Real => self.real.carry_out(alloc, command),
         }

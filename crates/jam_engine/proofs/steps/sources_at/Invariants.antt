@@ -1,0 +1,7 @@
+use Rattle.std.proofs.Common.{take, ◌≡◌}
+use Rattle.std.specs.List.{flat_map}
+use Rattle.jam_engine.specs.Acts.{acts_at}
+use Rattle.jam_engine.proofs.steps.sources_at.Given as goal
+
+abbrev pub invariant-loop-place : goal.invariant-loop-place
+invariant-loop-place l = l.sources ≡ flat_map (λ act. act.sources) (acts_at l.acts (take l.place-index l.set))
