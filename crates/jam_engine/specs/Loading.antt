@@ -18,6 +18,7 @@ use Rattle.jam_effects.specs.declared.fault.EvalFault.TheVariants as evals
 use Rattle.jam_effects.specs.declared.turns.Turns.{Turns}
 use Rattle.jam_effects.specs.Causes.{cause_of, refused_by}
 use Rattle.jam_effects.specs.Machines.{folder_of}
+use Rattle.jam_engine.specs.declared.load.JamLoaded.{JamLoaded}
 use Rattle.jam_engine.specs.declared.fault.JamFault.{JamFault}
 use Rattle.jam_engine.specs.declared.fault.JamFault.TheVariants as faults
 use Rattle.jam_engine.specs.declared.graph.Graph.{Graph}
@@ -141,6 +142,13 @@ pub record IsLoaded (Told : Type 0) (before after : Outside) (turns left : Turns
   pub ready : IfOk result IsReady
   pub leaves : Leaves before after turns left
   pub counts : Counts result before after
+
+-- all that the load of a file promises, and that of one that reads so
+abbrev pub LoadsFile : Outside → Outside → Text → Turns → Turns → JamLoaded → Type 0
+LoadsFile before after path turns left loaded = IsLoaded (TellsGraph before path turns left loaded.echoes loaded.result) before after turns left loaded.result
+
+abbrev pub LoadsReading : Reading → Outside → Outside → Text → Turns → Turns → JamLoaded → Type 0
+LoadsReading reading before after path turns left loaded = IsLoaded (TellsReading reading before path turns left loaded.echoes loaded.result) before after turns left loaded.result
 
 -- the fault of a load whose file was not read
 abbrev pub of_io : IoFault → JamFault

@@ -5,7 +5,7 @@ ghost use Rattle.jam_grammar.specs.Trees.{whole_tree};
 ghost use Rattle.jam_eval.specs.Settings.{is_file};
 ghost use Rattle.jam_values.specs.FileReadings.{reading_of};
 ghost use Rattle.jam_engine.specs.Graphs.{IsReady};
-ghost use Rattle.jam_engine.specs.Loading.{TellsGraph, TellsReading, IsGraphOf, EndsSo, IsLoaded, Leaves, Counts, of_eval, of_lex, of_io};
+ghost use Rattle.jam_engine.specs.Loading.{TellsGraph, TellsReading, IsGraphOf, EndsSo, LoadsFile, LoadsReading, Leaves, Counts, of_eval, of_lex, of_io};
 
 use crate::declaring::graph_of;
 use crate::fault::JamFault;
@@ -168,7 +168,7 @@ fn load_found<F: Files>(
     turns: &mut Turns,
     reading: FileReading,
 ) -> JamLoaded
-    ensures { IsLoaded (TellsReading (reading_of reading) (F.outside files.old) path.now turns.old turns.new result.echoes result.result) (F.outside files.old) (F.outside files.new) turns.old turns.new result.result }
+    ensures { LoadsReading (reading_of reading) (F.outside files.old) (F.outside files.new) path.now turns.old turns.new result }
 {
     match load_reading(alloc, files, path, turns, reading) {
         Ok(loaded) => loaded,
@@ -189,7 +189,7 @@ fn unread(alloc: Global, fault: IoFault) -> JamLoaded
 
 /// Reads a file and runs it.
 fn load_file<F: Files>(alloc: Global, files: &mut F, path: &Path, turns: &mut Turns) -> JamLoaded
-    ensures { IsLoaded (TellsGraph (F.outside files.old) path.now turns.old turns.new result.echoes result.result) (F.outside files.old) (F.outside files.new) turns.old turns.new result.result }
+    ensures { LoadsFile (F.outside files.old) (F.outside files.new) path.now turns.old turns.new result }
 {
     match read_file(alloc, files, path) {
         Ok(reading) => load_found(alloc, files, path, turns, reading),
