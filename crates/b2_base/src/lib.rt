@@ -1,4 +1,11 @@
 //! Texts, paths, tokens and maps from texts and paths, and how many texts a call's lists have, each seen by contracts as the value that it stands for.
+//!
+//! # What is proved
+//!
+//! - A path is in normal form exactly where no single step of simplification is left.
+//! - `under` means a proper prefix of segments.
+//! - A text, a list of texts and a map from texts or from paths is seen as the value that it stands for.
+//! - The number of texts that the lists of a call have is exact.
 #![tactic(auto)]
 
 pub mod decimal;

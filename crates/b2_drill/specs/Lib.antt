@@ -1,1 +1,4 @@
+-- What the files define.
+-- `Drills`: the events of a drill
+
 pub mod Drills

@@ -20,6 +20,12 @@
 //!
 //! The subject of a line is its list of outputs, or the path that was scanned. Of each subject the last line counts, and
 //! where that line is a drop, the log tells nothing of it. The kept lines are, in order, those that the log tells.
+//!
+//! # What is proved
+//!
+//! - The lines that are read are the longest good prefix of the bytes.
+//! - A line that is written reads as what it was written from.
+//! - What a log tells of a subject, and what is kept of it, is exact.
 #![tactic(auto)]
 
 mod field;

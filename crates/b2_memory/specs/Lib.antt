@@ -1,3 +1,9 @@
+-- What a reader opens first, and what it defines. The other files serve these or the proofs.
+-- `Memories`: each call of the host in memory as a function of all that it is
+-- `Scripts`: the calls that are to fail, and what may go wrong by them
+-- `Results`: what a child process in memory makes
+-- `ResultLaws`: neighbouring inputs with different paths may change places
+
 pub mod Results
 pub mod ResultLaws
 pub mod NamedBytes

@@ -1,3 +1,12 @@
+-- What a reader opens first, and what it defines. The other files serve these or the proofs.
+-- `Outcomes`: steps that may be refused
+-- `Calls`: a call and how it is refused
+-- `Carrying`: the tables, call by call
+-- `Gathering`: projects, main targets and tests, call by call
+-- `Declaring`: both
+-- `Numbered`: each number leads somewhere
+-- `Laws`: what follows
+
 pub mod Outcomes
 pub mod Calls
 pub mod Carrying

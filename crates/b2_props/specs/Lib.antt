@@ -1,3 +1,11 @@
+-- What a reader opens first, and what it defines. The other files serve these or the proofs.
+-- `Sets`, `Refinement`: sets, refining, completing with defaults
+-- `Elements`: elements of output paths
+-- `Numbers`: the number beside the pairs of a set
+-- `Requirements`: below which number the rules lie that a requirement asks
+-- `Words`, `Requests`: the words of a request, their product, and their faults
+-- `Laws`: what follows
+
 pub mod Sets
 pub mod Refinement
 pub mod Membership

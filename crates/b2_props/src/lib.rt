@@ -1,4 +1,8 @@
 //! Sets of properties: what stands in them, how they are made whole and refined, and how a request is read.
+//!
+//! # What is proved
+//!
+//! - Sets of properties and requests are exact, and so is each fault, with its word.
 #![tactic(auto)]
 
 mod choice;

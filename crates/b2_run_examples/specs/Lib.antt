@@ -1,3 +1,5 @@
+-- Small updates for which the definitions of b2_runs say what they should. `Examples` comes first.
+
 pub mod Examples
 pub mod Overlap
 pub mod DigestUpdates

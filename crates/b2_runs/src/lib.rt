@@ -1,4 +1,12 @@
 //! What a run of an update is, and the laws that its outcome follows from; and steps by their numbers.
+//!
+//! # What is proved
+//!
+//! The modules are named after what they prove. A law is a function with an empty body, whose contract is the theorem.
+//!
+//! - A run, an outcome, a report, a log, an answer and a session are definitions. The laws follow from these alone.
+//! - The clauses of the update, of builds and of sessions rest on the laws.
+//! - Some laws are for the reader alone, as those on what the next update does not start again.
 #![tactic(auto)]
 
 pub mod children_follow_events;

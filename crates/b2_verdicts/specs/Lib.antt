@@ -1,3 +1,13 @@
+-- What the files define.
+-- `Points`: which point of staleness is the first that holds
+-- `Stamps`, `Older`, `Digested`: what stamps and digests tell
+-- `Made`: the record of a step
+-- `Calls`: what a verdict asks and learns
+-- `Cases`: how what is known of a step's files belongs to an update
+-- `Sights`: what is known of the file with a number
+-- `Chains`: parts of the chain of points
+-- `Laws`: what follows
+
 pub mod Sights
 pub mod Stamps
 pub mod Older

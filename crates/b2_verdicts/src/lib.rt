@@ -2,6 +2,13 @@
 //!
 //! [`verdict::by_stamps`] and [`verdict::verdict`] name the first point of staleness that holds, and [`record::record_of`] makes
 //! the record of a step by the files as they stand.
+//!
+//! # What is proved
+//!
+//! - The first point of staleness that holds is named, by time stamps or by digests, or none.
+//! - Where what is known is true of the files, a step without a point is fresh and a step with one is stale.
+//! - The record that is made is the one that an update appends.
+//! - A file is read only by digests, and at most once.
 #![tactic(auto)]
 
 mod comparing;

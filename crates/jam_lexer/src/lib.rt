@@ -1,4 +1,9 @@
 //! The tokens of a text in the language of build files.
+//!
+//! # What is proved
+//!
+//! - The tokens are the one list of tokens of the text.
+//! - Each refusal comes exactly where there is none.
 #![tactic(auto)]
 
 ghost use Rattle.std.specs.Prelude.{ℕ, ◌≤◌, ◌↔◌, List, Result, length, IfOk, IsErrOf};

@@ -17,6 +17,13 @@
 //!
 //! Its inputs, and what is included by members that were scanned. So it grows, and an output that is not built yet is passed
 //! over and scanned later.
+//!
+//! # What is proved
+//!
+//! - The includes of a file are those of its lines, exactly by what an include line is. Each has a name.
+//! - Which files are scanned is exact.
+//! - The places of an include are exact, in order and in normal form.
+//! - The members of a closure are all that the step is known to read, by the values of the members that were scanned.
 #![tactic(auto)]
 
 pub mod closure;

@@ -1,4 +1,8 @@
 //! Writes lexemes as a text in the language of build files, from which lexing reads them again.
+//!
+//! # What is proved
+//!
+//! - The text that a list of tokens is written as lexes to them again.
 #![tactic(auto)]
 
 ghost use Rattle.std.specs.Prelude.{◌≡◌, IfOk};
