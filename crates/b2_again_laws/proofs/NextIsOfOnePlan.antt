@@ -10,10 +10,10 @@ use Rattle.b2_runs.proofs.DiskStaysSound.{true_log_serves}
 use Rattle.b2_runs.proofs.RecordIsTrue.{distinguishes_less}
 use Rattle.b2_runs.proofs.TrueThroughSession.{true_shown, so_shown, past_grows, shows_reopened}
 use Rattle.b2_drain.specs.Drains.{Made}
-use Rattle.b2_words.specs.Words.{Word}
-use Rattle.b2_front.specs.Laws.{OneMeaning}
+use Rattle.b2_command_line.specs.Words.{Word}
+use Rattle.b2_prepare.specs.Laws.{OneMeaning}
 use Rattle.b2_top.specs.Plans.{TellsApart, making_by}
-use Rattle.b2_sessions.specs.Calls.{update_of}
+use Rattle.b2_sessions.specs.BuildCalls.{update_of}
 use Rattle.b2_session_laws.specs.Neighbours.{AreNeighbours, IsNextAtOnce, IsNextAfterStop}
 use Rattle.b2_source_laws.specs.NextPlans.{SourcesStay}
 use Rattle.b2_source_laws.proofs.NextPlanIsTheSame.{next_is_of_same_plan}

@@ -12,12 +12,12 @@ use Rattle.b2_runs.specs.LogCourses.{held_bytes, log_file}
 use Rattle.b2_runs.specs.LogFiles.{log_limit}
 use Rattle.b2_runs.specs.NextLaws.{IsOfSamePlan, AreEventsBetween}
 use Rattle.b2_drain.specs.Drains.{Made}
-use Rattle.b2_words.specs.Words.{Word}
+use Rattle.b2_command_line.specs.Words.{Word}
 use Rattle.b2_top.specs.declared.answer.Answer.TheVariants as answers
 use Rattle.b2_top.specs.declared.build_command.BuildCommand.{BuildCommand}
 use Rattle.b2_top.specs.Commands.{build_command}
 use Rattle.b2_top.specs.Plans.{build_at}
-use Rattle.b2_sessions.specs.Calls.{update_of, HasCome}
+use Rattle.b2_sessions.specs.BuildCalls.{update_of, UpdateHasCome}
 use Rattle.b2_session_laws.specs.Neighbours.{AreNeighbours, IsNextAtOnce, IsNextAfterStop}
 use Rattle.b2_source_laws.specs.NextPlans.{AsksAgain}
 
@@ -27,8 +27,8 @@ pub record AskAgain (made : Made) (words again : List Word) (n : AreNeighbours m
   pub shows : n.before.host.disk ≡ Some disk
   pub middle : Disk
   pub shows_then : n.reopened.host.disk ≡ Some middle
-  pub come : HasCome made words n.given n.before.host n.between.host disk
-  pub next : HasCome made again n.answer n.reopened.host n.after.host middle
+  pub come : UpdateHasCome made words n.given n.before.host n.between.host disk
+  pub next : UpdateHasCome made again n.answer n.reopened.host n.after.host middle
   pub asks : AsksAgain come.plan.command next.plan.command
 
 -- they are updates of one plan
@@ -48,7 +48,7 @@ NextAfterStopIsOfOnePlan = (made : Made) (words again : List Word) (n : AreNeigh
 pub record IsAskedAgain (made : Made) (words again : List Word) (n : AreNeighbours made words again) : Type 0 where
   pub disk : Disk
   pub shows : n.before.host.disk ≡ Some disk
-  pub come : HasCome made words n.given n.before.host n.between.host disk
+  pub come : UpdateHasCome made words n.given n.before.host n.between.host disk
   pub middle : Disk
   pub shows_then : n.reopened.host.disk ≡ Some middle
   pub command : BuildCommand

@@ -2,7 +2,7 @@
 //! the log between them is within its limit.
 ghost use Rattle.b2_again_laws.specs.Laws.{NextAtOnceIsOfOnePlan, NextAfterStopIsOfOnePlan, AgainStartsNone, AgainRepeatsNone, AfterStopRepeatsNone};
 
-use b2_front::laws::one_meaning;
+use b2_prepare::laws::one_meaning;
 
 /// They are of one plan: no premise on plans is left.
 pub fn next_at_once()

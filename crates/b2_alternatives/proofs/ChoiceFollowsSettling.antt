@@ -2,7 +2,7 @@
 use Rattle.std.proofs.Common.{◌≡◌, ℕ, Bool, List, Option, Some, Result, Ok, Err, inl, inr, refl, sym, subst}
 use Rattle.std.specs.Result.{IfOk, IfErr}
 use Rattle.std.proofs.lemmas.Bool.{false≢true}
-use Rattle.b2_features.specs.Table.{Declared as Feature}
+use Rattle.b2_features.specs.Table.{DeclaredFeature}
 use Rattle.b2_props.specs.Sets.{Pair, IsSet}
 use Rattle.b2_props.specs.declared.requirement.Requirement.{Requirement}
 use Rattle.b2_refine.specs.Answers.{Answer}
@@ -10,15 +10,15 @@ use Rattle.b2_refine.specs.Conditions.{IsSettled, IsUnstable, IsAsked}
 use Rattle.b2_refine.specs.Faults.{IsUnstableBy, IsAskedBy, IsKnownFault, is_asked}
 use Rattle.b2_refine.specs.declared.fault.RefineFault.{RefineFault}
 use Rattle.b2_refine.specs.declared.fault.RefineFault.TheVariants as refused
-use Rattle.b2_metatargets.specs.declared.whole.Declared.{Declared}
+use Rattle.b2_declared.specs.declared.whole.Declared.{Declared}
 use Rattle.b2_references.specs.Names.{Name, features, target_text}
-use Rattle.b2_evaluation.specs.Answers.{Answers}
+use Rattle.b2_evaluator.specs.Answers.{Answers}
 use Rattle.b2_base.specs.Counts.{IsCounted}
 use Rattle.b2_alternatives.specs.declared.fault.ChoiceFault.{ChoiceFault}
 use Rattle.b2_alternatives.specs.declared.fault.ChoiceFault.TheVariants.{NoAlternative, AmbiguousAlternative, Unstable, BadAnswer, Eval, OutOfMemory}
-use Rattle.b2_alternatives.specs.declared.choosing.Selected.{Selected}
+use Rattle.b2_alternatives.specs.declared.choosing.FullChoice.{FullChoice}
 use Rattle.b2_alternatives.specs.Choosing.{answer, requirements}
-use Rattle.b2_alternatives.specs.Asking.{is_eval, is_memory, IsKnown, told_answer, HoldsOf, IsRefusal}
+use Rattle.b2_alternatives.specs.IndirectRules.{is_eval, is_memory, IsKnown, told_answer, HoldsOf, IsRefusal}
 use Rattle.b2_alternatives.specs.Picking.{IsSelection, IsUnpicked}
 use Rattle.b2_alternatives.specs.Settling.{Tells, IsSettling, IsChoosing}
 use Rattle.b2_alternatives.proofs.RulesTellWhatTheyReturn.{told_is}
@@ -39,7 +39,7 @@ module _ {S E K : Type 0} (answers : S → Option (Answers E)) (kept : S → K) 
         project = p;
       })
 
-  module _ (name : Name) (full : List Pair) (required : List Requirement) (table : List Feature) (same : table ≡ features d) (r : Result (List Pair) (RefineFault (ChoiceFault E))) (new : S) (after : Declared)
+  module _ (name : Name) (full : List Pair) (required : List Requirement) (table : List DeclaredFeature) (same : table ≡ features d) (r : Result (List Pair) (RefineFault (ChoiceFault E))) (new : S) (after : Declared)
       (settled : (told : Answer (ChoiceFault E)) → told_answer d name (answers old) ≡ Some told → IfOk r (IsSettled told table full required))
       (unstable : (told : Answer (ChoiceFault E)) → told_answer d name (answers old) ≡ Some told → IfErr r (IsUnstableBy told table full required))
       (asked : (told : Answer (ChoiceFault E)) → told_answer d name (answers old) ≡ Some told → IfErr r (IsAskedBy (is_eval is_host) (is_memory is_out) told table full required))
@@ -56,10 +56,10 @@ module _ {S E K : Type 0} (answers : S → Option (Answers E)) (kept : S → K) 
     pub settle_ok : (s : List Pair) → r ≡ Ok s → IsSettling answers kept faults is_host is_out CanFault d after old new name full required (Ok s)
     settle_ok s e = record {
       holds = λ told t.
-          subst (λ (fs : List Feature). IsSettled (answer d told.returned name) fs full required s) same
+          subst (λ (fs : List DeclaredFeature). IsSettled (answer d told.returned name) fs full required s) same
           (subst (λ (y : R). IfOk y (IsSettled (answer d told.returned name) table full required)) e (settled (answer d told.returned name) (told_is d name (answers old) told t)));
       refuses = λ told t. tt;
-      good = subst (λ (fs : List Feature). IsSet fs s) same (subst (λ (y : R). IfOk y (IsSet table)) e set);
+      good = subst (λ (fs : List DeclaredFeature). IsSet fs s) same (subst (λ (y : R). IfOk y (IsSet table)) e set);
       leaves = record { same_answers = a; same_kept = k; counted = count (Ok s) e; known = tt };
       project = p;
     }
@@ -69,7 +69,7 @@ module _ {S E K : Type 0} (answers : S → Option (Answers E)) (kept : S → K) 
     settle_asked f e = record {
       holds = λ told t. tt;
       refuses = λ told t not_host not_memory.
-          inl (subst (λ (fs : List Feature). IsAsked (answer d told.returned name) fs full required f) same
+          inl (subst (λ (fs : List DeclaredFeature). IsAsked (answer d told.returned name) fs full required f) same
           (subst (λ (y : R). IfErr y (IsAskedBy (is_eval is_host) (is_memory is_out) (answer d told.returned name) table full required)) e (asked (answer d told.returned name) (told_is d name (answers old) told t)) not_host not_memory));
       good = tt;
       leaves = record {
@@ -93,7 +93,7 @@ module _ {S E K : Type 0} (answers : S → Option (Answers E)) (kept : S → K) 
                 (
                   y,
                   refl,
-                  subst (λ (fs : List Feature). IsUnstable (answer d told.returned name) fs full required x y) same
+                  subst (λ (fs : List DeclaredFeature). IsUnstable (answer d told.returned name) fs full required x y) same
                       (subst (λ (z : R). IfErr z (IsUnstableBy (answer d told.returned name) table full required)) e (unstable (answer d told.returned name) (told_is d name (answers old) told t))),
                 ),
               );
@@ -102,7 +102,7 @@ module _ {S E K : Type 0} (answers : S → Option (Answers E)) (kept : S → K) 
           project = p;
         })
 
-  module _ (name : Name) (set : List Pair) (s : Selected) (is : IsSelection d name set s) (new : S) (after : Declared) (r : Result (List Pair) (ChoiceFault E))
+  module _ (name : Name) (set : List Pair) (s : FullChoice) (is : IsSelection d name set s) (new : S) (after : Declared) (r : Result (List Pair) (ChoiceFault E))
       (out : IsSettling answers kept faults is_host is_out CanFault d after old new name s.full (requirements d s.target.now) r) where
     -- the alternative that was selected settles
     pub choose_ok : (x : List Pair) → r ≡ Ok x → IsChoosing answers kept faults is_host is_out CanFault d after old new name set (Ok (record { number = s.number; target = s.target; set = x }))

@@ -11,8 +11,8 @@ use Rattle.b2_refine.specs.Choices.{counted, IsChoice}
 use Rattle.b2_refine.specs.declared.choice.Choice.{Choice}
 use Rattle.b2_refine.specs.declared.choice.Choice.TheVariants as choices
 use Rattle.b2_refine.proofs.BetterIsAStrictOrder.{viable_within}
-use Rattle.b2_metatargets.specs.declared.place.Target.{Target}
-use Rattle.b2_metatargets.specs.declared.whole.Declared.{Declared}
+use Rattle.b2_declared.specs.declared.place.Target.{Target}
+use Rattle.b2_declared.specs.declared.whole.Declared.{Declared}
 use Rattle.b2_references.specs.Names.{Name, features, alternatives, is_target}
 use Rattle.b2_alternatives.specs.Choosing.{condition, conditions}
 use Rattle.b2_alternatives.specs.Picking.{IsAt}

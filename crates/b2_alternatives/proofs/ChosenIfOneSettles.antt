@@ -4,13 +4,13 @@ use Rattle.b2_props.specs.Sets.{Pair}
 use Rattle.b2_refine.specs.Choices.{IsChoice}
 use Rattle.b2_refine.specs.Conditions.{IsSettled, IsUnstable, IsAsked}
 use Rattle.b2_refine.specs.declared.choice.Choice.TheVariants as choices
-use Rattle.b2_metatargets.specs.declared.place.Target.{Target}
-use Rattle.b2_metatargets.specs.declared.whole.Declared.{Declared}
+use Rattle.b2_declared.specs.declared.place.Target.{Target}
+use Rattle.b2_declared.specs.declared.whole.Declared.{Declared}
 use Rattle.b2_references.specs.Names.{Name, features, target_text}
 use Rattle.b2_alternatives.specs.declared.fault.ChoiceFault.{ChoiceFault}
 use Rattle.b2_alternatives.specs.declared.fault.ChoiceFault.TheVariants.{NoAlternative, AmbiguousAlternative}
 use Rattle.b2_alternatives.specs.Choosing.{Returned, full_set, conditions, requirements, IsAlternative, answer, Chooses, Chooses.none, Chooses.two, Chooses.unsettled, Chooses.badly_answered, Chooses.settled}
-use Rattle.b2_alternatives.specs.Asking.{IsRefusal}
+use Rattle.b2_alternatives.specs.IndirectRules.{IsRefusal}
 use Rattle.b2_alternatives.specs.Picking.{IsAt}
 
 module _ {E : Type 0} (d : Declared) (returned : Returned E) (name : Name) (set full : List Pair) (whole : full ≡ full_set d name set) where

@@ -3,18 +3,18 @@ use Rattle.std.proofs.Common.{◌≡◌, ℕ, ◌+◌, ◌<◌, Bool, true, fals
 use Rattle.std.specs.Option.{option_or, option_map}
 use Rattle.std.specs.Str.{bytes_eq}
 use Rattle.std.proofs.lemmas.List.{at_drop_more}
-use Rattle.b2_features.specs.Table.{Declared}
+use Rattle.b2_features.specs.Table.{DeclaredFeature}
 use Rattle.b2_props.specs.Sets.{Pair, value_of}
 use Rattle.b2_props.proofs.RepeatedPairsAddNothing.{value_of-append, option_or-none}
 use Rattle.b2_props.proofs.DraftHoldsEachGainedPair.{next_take}
 use Rattle.b2_alternatives.specs.Needs.{other_value, conflict_after}
-use Rattle.b2_alternatives.specs.Standing.{AreValues}
+use Rattle.b2_alternatives.specs.DependencyWork.{AreValues}
 use Rattle.b2_alternatives.specs.Conflicting.{HasFirst}
 use Rattle.b2_alternatives.specs.declared.conflict.Conflict.{Conflict}
 use Rattle.b2_alternatives.specs.declared.conflict.Values.{Values}
 
 -- none of the first pairs conflicts, and their values are kept
-pub record IsMet (table : List Declared) (before pairs : List Pair) (i : ℕ) (values : Values) : Type 0 where
+pub record IsMet (table : List DeclaredFeature) (before pairs : List Pair) (i : ℕ) (values : Values) : Type 0 where
   pub exact : conflict_after table (before ++ take i pairs) (drop i pairs) ≡ conflict_after table before pairs
   pub kept : AreValues (before ++ take i pairs) values
 
@@ -29,7 +29,7 @@ values_more before p old new were become = record {
     go true o = refl
     go false o = sym (option_or-none o)
 
-module _ (table : List Declared) (before pairs : List Pair) (i : ℕ) (x : Pair) (within : i < length pairs) (is : x ≡ get_or pairs i x) where
+module _ (table : List DeclaredFeature) (before pairs : List Pair) (i : ℕ) (x : Pair) (within : i < length pairs) (is : x ≡ get_or pairs i x) where
   abbrev now : List Pair
   now = before ++ take i pairs
 

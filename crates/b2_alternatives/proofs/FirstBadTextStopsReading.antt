@@ -3,10 +3,10 @@ use Rattle.std.proofs.Common.{◌≡◌, ℕ, suc, ◌+◌, ◌<◌, List, [], �
 use Rattle.std.specs.Option.{option_map, option_map_or}
 use Rattle.b2_props.specs.Sets.{Pair}
 use Rattle.b2_props.proofs.DraftHoldsEachGainedPair.{next_take}
-use Rattle.b2_texts.proofs.ReadingStopsAtFirstFault.{around}
-use Rattle.b2_metatargets.specs.declared.whole.Declared.{Declared}
-use Rattle.b2_alternatives.specs.declared.reading.Reading.{Reading}
-use Rattle.b2_alternatives.specs.declared.reading.Reading.TheVariants.{Properties, Bad}
+use Rattle.b2_property_texts.proofs.ReadingStopsAtFirstFault.{around}
+use Rattle.b2_declared.specs.declared.whole.Declared.{Declared}
+use Rattle.b2_alternatives.specs.declared.reading.ReturnedProperties.{ReturnedProperties}
+use Rattle.b2_alternatives.specs.declared.reading.ReturnedProperties.TheVariants.{Properties, Bad}
 use Rattle.b2_alternatives.specs.Choosing.{read_before, answered_pair, answered}
 
 pub some_mapped : {X Y : Type 0} (f : X → Y) (o : Option X) → is_some o ≡ is_some (option_map f o)
@@ -14,15 +14,15 @@ some_mapped f None = refl
 some_mapped f (Some x) = refl
 
 -- pairs before what others read as
-abbrev after_pairs : List Pair → Reading → Reading
+abbrev after_pairs : List Pair → ReturnedProperties → ReturnedProperties
 after_pairs pairs (Properties more) = Properties (pairs ++ more)
 after_pairs pairs (Bad word) = Bad word
 
-before_all : (p : Pair) (pairs : List Pair) (r : Reading) → read_before p (after_pairs pairs r) ≡ after_pairs (p ∷ pairs) r
+before_all : (p : Pair) (pairs : List Pair) (r : ReturnedProperties) → read_before p (after_pairs pairs r) ≡ after_pairs (p ∷ pairs) r
 before_all p pairs (Properties more) = refl
 before_all p pairs (Bad word) = refl
 
-none_before : (r : Reading) → r ≡ after_pairs [] r
+none_before : (r : ReturnedProperties) → r ≡ after_pairs [] r
 none_before (Properties more) = refl
 none_before (Bad word) = refl
 
@@ -31,7 +31,7 @@ module _ (d : Declared) (dir : List ℕ) where
   answered-append [] ys pairs e = let same : [] ≡ pairs = cc in none_before (answered d dir ys) ∙ ap (λ (ps : List Pair). after_pairs ps (answered d dir ys)) same
   answered-append (x ∷ xs) ys pairs e = go (answered_pair d dir x) (answered d dir xs) refl e (answered-append xs ys)
     where
-      go : (o : Option Pair) (r : Reading) → answered d dir xs ≡ r → option_map_or (λ p. read_before p r) o (Bad x) ≡ Properties pairs → ((ps : List Pair) → answered d dir xs ≡ Properties ps → answered d dir (xs ++ ys) ≡ after_pairs ps (answered d dir ys))
+      go : (o : Option Pair) (r : ReturnedProperties) → answered d dir xs ≡ r → option_map_or (λ p. read_before p r) o (Bad x) ≡ Properties pairs → ((ps : List Pair) → answered d dir xs ≡ Properties ps → answered d dir (xs ++ ys) ≡ after_pairs ps (answered d dir ys))
           → option_map_or (λ p. read_before p (answered d dir (xs ++ ys))) o (Bad x) ≡ after_pairs pairs (answered d dir ys)
       go None r is e more = cc
       go (Some p) (Bad word) is e more = cc

@@ -13,7 +13,7 @@ use Rattle.b2_alternatives.specs.declared.need.Next.{Next}
 use Rattle.b2_alternatives.specs.declared.need.Next.TheVariants.{Complete, Missing, Due}
 use Rattle.b2_alternatives.specs.declared.known.KnownNames.{KnownNames}
 use Rattle.b2_alternatives.specs.Needs.{first_due, next_by, next_among}
-use Rattle.b2_alternatives.specs.Standing.{is_known, AreKnown, is_met_by, is_met, AreMet, is_complete, Finds}
+use Rattle.b2_alternatives.specs.DependencyWork.{is_known, AreKnown, is_met_by, is_met, AreMet, is_complete, Finds}
 
 -- ---- one need
 

@@ -5,7 +5,7 @@ use Rattle.std.specs.Cmp.Lexicographic.{nat_list_eq_equiv}
 use Rattle.std.proofs.lemmas.List.Folds.{list_any-append}
 use Rattle.b2_references.specs.Names.{Name, is_same, is_among}
 use Rattle.b2_alternatives.specs.declared.known.KnownNames.{KnownNames}
-use Rattle.b2_alternatives.specs.Standing.{is_known, AreKnown}
+use Rattle.b2_alternatives.specs.DependencyWork.{is_known, AreKnown}
 
 same_equiv : IsEquivalence is_same
 same_equiv = and_equiv (on_equiv (λ (a : Name). a.0) nat_eq_equiv) (on_equiv (λ (a : Name). a.1) nat_list_eq_equiv)

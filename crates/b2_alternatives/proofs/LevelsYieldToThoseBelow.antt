@@ -7,7 +7,7 @@ use Rattle.std.proofs.lemmas.List.{append-nil, at_drop_more}
 use Rattle.std.proofs.lemmas.List.Concat.{flat_map-append, flat_map-cons}
 use Rattle.std.proofs.lemmas.List.Elements.{filter_agree}
 use Rattle.b2_features.specs.declared.attribute.Attribute.TheVariants.{Free}
-use Rattle.b2_features.specs.Table.{Declared}
+use Rattle.b2_features.specs.Table.{DeclaredFeature}
 use Rattle.b2_features.specs.Faults.{is_with}
 use Rattle.b2_props.specs.Sets.{Pair}
 use Rattle.b2_props.specs.Refinement.{names}
@@ -18,9 +18,9 @@ use Rattle.b2_props.specs.declared.requirement.Requirement.TheVariants.{Plain}
 use Rattle.b2_props.proofs.IndexTellsWhichAreThere.{index_all}
 use Rattle.b2_props.proofs.CompletionGrowsPairByPair.{names-append}
 use Rattle.b2_props.proofs.DraftHoldsEachGainedPair.{next_take}
-use Rattle.b2_metatargets.specs.declared.place.Place.{Place}
-use Rattle.b2_metatargets.specs.declared.place.Target.{Target}
-use Rattle.b2_metatargets.specs.declared.whole.Declared.{Declared as Whole}
+use Rattle.b2_declared.specs.declared.place.Place.{Place}
+use Rattle.b2_declared.specs.declared.place.Target.{Target}
+use Rattle.b2_declared.specs.declared.whole.Declared.{Declared as Whole}
 use Rattle.b2_references.specs.Names.{features, lineage}
 use Rattle.b2_alternatives.specs.Usage.{usage_pairs, usage_in, yielding, own_levels, own_usage}
 use Rattle.b2_alternatives.proofs.MapsComposeAndGrow.{map_after}
@@ -32,7 +32,7 @@ usage_next set xs i x within is =
     ∙ ap (λ (ps : List Pair). usage_in set (take i xs) ++ ps) (append-nil (usage_pairs set x))
 
 -- what stands of a level, where a test tells what the levels below it name
-pub standing_by : (table : List Declared) (below : List (List Pair)) (level : List Pair) (test : List ℕ → Bool) → ((q : List ℕ) → test q ≡ names (flat_map (λ (pairs : List Pair). pairs) below) q)
+pub standing_by : (table : List DeclaredFeature) (below : List (List Pair)) (level : List Pair) (test : List ℕ → Bool) → ((q : List ℕ) → test q ≡ names (flat_map (λ (pairs : List Pair). pairs) below) q)
     → filter (λ p. is_with Free table p.0 || not (test p.0)) level ++ yielding table below ≡ yielding table (level ∷ below)
 standing_by table below level test agree =
     ap (λ (ps : List Pair). ps ++ yielding table below)
@@ -59,7 +59,7 @@ or_swap true false = refl
 or_swap false true = refl
 or_swap false false = refl
 
-module _ (table : List Declared) (levels : List (List Pair)) (place i : ℕ) (x level : List Pair) (next : i + 1 ≡ place) (within : i < length levels) (is : x ≡ get_or levels i x) (same : level ≡ x) where
+module _ (table : List DeclaredFeature) (levels : List (List Pair)) (place i : ℕ) (x level : List Pair) (next : i + 1 ≡ place) (within : i < length levels) (is : x ≡ get_or levels i x) (same : level ≡ x) where
   cut : {Y : Type 0} (F : List (List Pair) → Y) → F (drop i levels) ≡ F (x ∷ drop place levels)
   cut F =
       at_drop_more F levels i x within ∙ ap (λ (y : List Pair). F (y ∷ drop (i + 1) levels)) (sym is)
@@ -98,7 +98,7 @@ no_usage set [] e = refl
 no_usage set (r ∷ usage) e = absurd (omega (arith, eqb-true (length (r ∷ usage)) 0 e))
 
 -- levels without usage requirements give nothing
-nothing_yields : (table : List Declared) (set : List Pair) (places : List (Bor Place)) (own : List Requirement) → (length own == 0) ≡ true → list_all (λ p. length p.now.usage == 0) places ≡ true
+nothing_yields : (table : List DeclaredFeature) (set : List Pair) (places : List (Bor Place)) (own : List Requirement) → (length own == 0) ≡ true → list_all (λ p. length p.now.usage == 0) places ≡ true
     → yielding table (map (λ p. usage_in set p.now.usage) places ++ usage_in set own ∷ []) ≡ []
 nothing_yields table set [] own none all = ap (λ (level : List Pair). yielding table (level ∷ [])) (no_usage set own none)
 nothing_yields table set (p ∷ places) own none all =

@@ -5,11 +5,11 @@ use Rattle.std.specs.List.{flat_map, filter, AllByRecursion}
 use Rattle.std.specs.Option.{option_map_or}
 use Rattle.std.proofs.lemmas.Option.{slice_get_within, get_or_from_slice_get}
 use Rattle.std.proofs.lemmas.List.Elements.{All-append, All-filter, All-from_recursion, recursion_from_All}
-use Rattle.b2_metatargets.specs.declared.place.Place.{Place}
-use Rattle.b2_metatargets.specs.declared.place.Target.{Target}
-use Rattle.b2_metatargets.specs.declared.whole.Declared.{Declared}
-use Rattle.b2_metatargets.specs.Laws.{AreNumbered}
-use Rattle.b2_metatargets.specs.Numbered.{IsNumbered}
+use Rattle.b2_declared.specs.declared.place.Place.{Place}
+use Rattle.b2_declared.specs.declared.place.Target.{Target}
+use Rattle.b2_declared.specs.declared.whole.Declared.{Declared}
+use Rattle.b2_declared.specs.Laws.{AreNumbered}
+use Rattle.b2_declared.specs.Numbered.{IsNumbered}
 use Rattle.b2_references.specs.Names.{Name, is_same, name_of, lineage_in, lineage, alternatives}
 use Rattle.b2_props.specs.Requirements.{AsksBelow}
 use Rattle.b2_alternatives.specs.Choosing.{requirements}

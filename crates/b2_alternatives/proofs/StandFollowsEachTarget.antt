@@ -1,19 +1,19 @@
 -- After one more main target, with usage requirements or without, the dependencies are where the alternative stands.
 use Rattle.std.proofs.Common.{◌≡◌, Bool, false, List, [], ◌∷◌, ◌++◌, Option, Some, None, is_some, length, refl, sym, ◌∙◌, ap, subst, arith}
 use Rattle.std.proofs.lemmas.List.{append-nil}
-use Rattle.b2_features.specs.Table.{Declared as Feature}
+use Rattle.b2_features.specs.Table.{DeclaredFeature}
 use Rattle.b2_props.specs.Sets.{Pair, IsSet, value_of, firsts, free_of, written}
 use Rattle.b2_props.specs.Refinement.{refined}
-use Rattle.b2_metatargets.specs.declared.place.Target.{Target}
-use Rattle.b2_metatargets.specs.declared.whole.Declared.{Declared}
+use Rattle.b2_declared.specs.declared.place.Target.{Target}
+use Rattle.b2_declared.specs.declared.whole.Declared.{Declared}
 use Rattle.b2_references.specs.Names.{Name, features}
 use Rattle.b2_alternatives.specs.declared.dependencies.Dependencies.{Dependencies}
 use Rattle.b2_alternatives.specs.Needs.{Under, after, property_needs}
-use Rattle.b2_alternatives.specs.Standing.{AreKnown, AreValues, AreMet, StandAt, Takes}
+use Rattle.b2_alternatives.specs.DependencyWork.{AreKnown, AreValues, AreMet, StandAt, Takes}
 use Rattle.b2_alternatives.proofs.FirstUnmetNeedComesNext.{met_stays, met_first}
 
 -- a set that nothing refines stays as it is
-refined_nothing : (table : List Feature) (set : List Pair) → IsSet table set → refined table set [] ≡ set
+refined_nothing : (table : List DeclaredFeature) (set : List Pair) → IsSet table set → refined table set [] ≡ set
 refined_nothing table set is = ap (λ (ps : List Pair). written table (value_of set) (firsts (free_of table ps))) (append-nil set) ∙ is
 
 module _ (d : Declared) (t : Target) (u : Under) (n : Name) (usage : List Pair) (old mid : Dependencies) (stand : StandAt d t u old)

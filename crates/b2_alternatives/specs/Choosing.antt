@@ -3,7 +3,7 @@ use Rattle.std.specs.Prelude.{◌≡◌, ℕ, suc, Bool, not, ◌||◌, List, []
 use Rattle.std.specs.List.{flat_map}
 use Rattle.std.specs.Option.{option_map_or}
 use Rattle.b2_features.specs.declared.attribute.Attribute.TheVariants.{Free, Incidental}
-use Rattle.b2_features.specs.Table.{Declared as Feature}
+use Rattle.b2_features.specs.Table.{DeclaredFeature}
 use Rattle.b2_features.specs.Faults.{is_with}
 use Rattle.b2_props.specs.Sets.{Pair, set_of}
 use Rattle.b2_props.specs.Refinement.{expanded}
@@ -13,15 +13,15 @@ use Rattle.b2_refine.specs.Answers.{Answer}
 use Rattle.b2_refine.specs.Conditions.{unconditional, IsSettled, IsUnstable, IsAsked}
 use Rattle.b2_refine.specs.Choices.{IsChoice}
 use Rattle.b2_refine.specs.declared.choice.Choice.TheVariants as choices
-use Rattle.b2_texts.specs.Cuts.{cut_at}
-use Rattle.b2_texts.specs.Readings.{property_of}
-use Rattle.b2_metatargets.specs.declared.place.Target.{Target}
-use Rattle.b2_metatargets.specs.declared.place.IndirectRule.{IndirectRule}
-use Rattle.b2_metatargets.specs.declared.whole.Declared.{Declared}
+use Rattle.b2_property_texts.specs.Cuts.{cut_at}
+use Rattle.b2_property_texts.specs.Readings.{property_of}
+use Rattle.b2_declared.specs.declared.place.Target.{Target}
+use Rattle.b2_declared.specs.declared.place.IndirectRule.{IndirectRule}
+use Rattle.b2_declared.specs.declared.whole.Declared.{Declared}
 use Rattle.b2_references.specs.Names.{Name, features, alternatives, dir_of, target_text, lineage, default_build}
-use Rattle.b2_texts.specs.Missing.{missing}
-use Rattle.b2_alternatives.specs.declared.reading.Reading.{Reading}
-use Rattle.b2_alternatives.specs.declared.reading.Reading.TheVariants.{Properties, Bad}
+use Rattle.b2_property_texts.specs.Missing.{missing}
+use Rattle.b2_alternatives.specs.declared.reading.ReturnedProperties.{ReturnedProperties}
+use Rattle.b2_alternatives.specs.declared.reading.ReturnedProperties.TheVariants.{Properties, Bad}
 use Rattle.b2_alternatives.specs.declared.fault.ChoiceFault.{ChoiceFault}
 use Rattle.b2_alternatives.specs.declared.fault.ChoiceFault.TheVariants.{NoAlternative, AmbiguousAlternative, Unstable, BadAnswer, Eval}
 
@@ -38,16 +38,16 @@ pub record Chosen : Type 0 where
   pub set : List Pair
 
 -- a property before others that were read
-abbrev pub read_before : Pair → Reading → Reading
+abbrev pub read_before : Pair → ReturnedProperties → ReturnedProperties
 read_before p (Properties pairs) = Properties (p ∷ pairs)
 read_before p (Bad word) = Bad word
 
 -- whether a property may stand in the condition of an alternative: it is neither free nor incidental
-abbrev pub is_base : List Feature → Pair → Bool
+abbrev pub is_base : List DeclaredFeature → Pair → Bool
 is_base table p = not (is_with Free table p.0 || is_with Incidental table p.0)
 
 -- the condition of an alternative: the base properties that it requires itself without conditions
-abbrev pub condition : List Feature → Target → List Pair
+abbrev pub condition : List DeclaredFeature → Target → List Pair
 condition table t = filter (is_base table) (unconditional t.requirements)
 
 module _ (d : Declared) where
@@ -82,12 +82,12 @@ module _ (d : Declared) where
   answered_pair dir text = if is_some (cut_at (codes ":<") text) then None else property_of (features d) dir text
 
   -- texts that a rule returned, as properties, completed as in the file of a project of this directory; or the first that is none
-  abbrev pub answered : List ℕ → List (List ℕ) → Reading
+  abbrev pub answered : List ℕ → List (List ℕ) → ReturnedProperties
   answered dir [] = Properties []
   answered dir (text ∷ more) = option_map_or (λ p. read_before p (answered dir more)) (answered_pair dir text) (Bad text)
 
   -- a rule's answer for a main target, as its returned texts read
-  abbrev pub answer_by : {E : Type 0} → Name → IndirectRule → Reading → Result (List Pair) (ChoiceFault E)
+  abbrev pub answer_by : {E : Type 0} → Name → IndirectRule → ReturnedProperties → Result (List Pair) (ChoiceFault E)
   answer_by name rule (Properties pairs) = Ok pairs
   answer_by name rule (Bad word) = Err (BadAnswer (target_text d name) rule.rule word)
 

@@ -3,10 +3,10 @@ use Rattle.std.specs.Prelude.{◌≡◌, ℕ, List, ◌++◌, Option, Some, None
 use Rattle.std.specs.Option.{option_or}
 use Rattle.std.specs.FinMap as map
 use Rattle.std.specs.Str.{bytes_eq}
-use Rattle.b2_features.specs.Table.{Declared}
+use Rattle.b2_features.specs.Table.{DeclaredFeature}
 use Rattle.b2_props.specs.Sets.{Pair}
 use Rattle.b2_alternatives.specs.Needs.{conflict_after}
-use Rattle.b2_alternatives.specs.Standing.{AreValues}
+use Rattle.b2_alternatives.specs.DependencyWork.{AreValues}
 use Rattle.b2_alternatives.specs.declared.conflict.Conflict.{Conflict}
 use Rattle.b2_alternatives.specs.declared.conflict.Values.{Values}
 
@@ -21,6 +21,6 @@ KeptIfNone pairs values None = AreValues pairs values
 KeptIfNone pairs values (Some found) = Unit {0}
 
 -- pairs after others have this conflict; where they have none, the values of all are kept
-pub record Meets (table : List Declared) (before pairs : List Pair) (values : Values) (found : Option Conflict) : Type 0 where
+pub record Meets (table : List DeclaredFeature) (before pairs : List Pair) (values : Values) (found : Option Conflict) : Type 0 where
   pub exact : found ≡ conflict_after table before pairs
   pub kept : KeptIfNone (before ++ pairs) values found

@@ -1,8 +1,8 @@
 -- What a choice is, in other words.
 use Rattle.std.specs.Prelude.{◌≡◌, false, List, Result, Ok}
 use Rattle.b2_props.specs.Sets.{Pair}
-use Rattle.b2_metatargets.specs.declared.whole.Declared.{Declared}
-use Rattle.b2_metatargets.specs.declared.place.Target.{Target}
+use Rattle.b2_declared.specs.declared.whole.Declared.{Declared}
+use Rattle.b2_declared.specs.declared.place.Target.{Target}
 use Rattle.b2_references.specs.Names.{Name, is_among}
 use Rattle.b2_alternatives.specs.declared.fault.ChoiceFault.{ChoiceFault}
 use Rattle.b2_alternatives.specs.declared.need.Next.TheVariants.{Due}

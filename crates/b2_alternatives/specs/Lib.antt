@@ -9,9 +9,9 @@
 pub mod Choosing
 pub mod Needs
 pub mod Usage
-pub mod Asking
+pub mod IndirectRules
 pub mod Picking
-pub mod Standing
+pub mod DependencyWork
 pub mod Conflicting
 pub mod Laws
 pub mod Settling

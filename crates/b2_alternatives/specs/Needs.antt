@@ -3,25 +3,25 @@ use Rattle.std.specs.Prelude.{ℕ, not, List, [], ◌∷◌, ◌++◌, Option, S
 use Rattle.std.specs.Option.{option_or, option_map_or, option_and_then}
 use Rattle.std.specs.Str.{bytes_eq}
 use Rattle.b2_features.specs.declared.attribute.Attribute.TheVariants.{Free, Dependency}
-use Rattle.b2_features.specs.Table.{Declared as Feature}
+use Rattle.b2_features.specs.Table.{DeclaredFeature}
 use Rattle.b2_features.specs.Faults.{is_with}
 use Rattle.b2_props.specs.Sets.{Pair, value_of}
 use Rattle.b2_props.specs.Refinement.{refined}
-use Rattle.b2_metatargets.specs.declared.place.Target.{Target}
-use Rattle.b2_metatargets.specs.declared.whole.Declared.{Declared}
+use Rattle.b2_declared.specs.declared.place.Target.{Target}
+use Rattle.b2_declared.specs.declared.whole.Declared.{Declared}
 use Rattle.b2_references.specs.Names.{Name, is_among, features}
 use Rattle.b2_references.specs.References.{source_meaning, value_meaning}
 use Rattle.b2_references.specs.declared.meaning.Meaning.{Meaning}
 use Rattle.b2_references.specs.declared.meaning.Meaning.TheVariants.{File, Targets, Nothing}
-use Rattle.b2_alternatives.specs.declared.need.Way.{Way}
-use Rattle.b2_alternatives.specs.declared.need.Way.TheVariants.{Source, Library, Order}
+use Rattle.b2_alternatives.specs.declared.need.NeedKind.{NeedKind}
+use Rattle.b2_alternatives.specs.declared.need.NeedKind.TheVariants.{Source, Library, Order}
 use Rattle.b2_alternatives.specs.declared.need.Need.{Need}
 use Rattle.b2_alternatives.specs.declared.need.Next.{Next}
 use Rattle.b2_alternatives.specs.declared.need.Next.TheVariants.{Complete, Missing, Due}
 use Rattle.b2_alternatives.specs.declared.conflict.Conflict.{Conflict}
 
 -- how a target needs what a dependency property of a feature names
-abbrev pub way_of : List ℕ → Way
+abbrev pub way_of : List ℕ → NeedKind
 way_of feature = if bytes_eq feature (codes "source") then Source else (if bytes_eq feature (codes "library") then Library else Order)
 
 -- Where a main target stands while what it depends on is generated: the set of its properties so far, the usage requirements
@@ -54,12 +54,12 @@ next_among done (need ∷ more) = next_by done need.text need.meaning (next_amon
 -- ---- two usage requirements that do not go together
 
 -- the value of an earlier pair, where it gives the feature of this one, not a free one, another value
-abbrev pub other_value : List Feature → List Pair → Pair → Option (List ℕ)
+abbrev pub other_value : List DeclaredFeature → List Pair → Pair → Option (List ℕ)
 other_value table before p =
     if is_with Free table p.0 then None else option_and_then (λ value. if bytes_eq value p.1 then None else Some value) (value_of before p.0)
 
 -- the first of some pairs that does not go with one before it
-abbrev pub conflict_after : List Feature → List Pair → List Pair → Option Conflict
+abbrev pub conflict_after : List DeclaredFeature → List Pair → List Pair → Option Conflict
 conflict_after table before [] = None
 conflict_after table before (p ∷ more) =
     option_or (option_map (λ value. record { feature = p.0; first = value; second = p.1 }) (other_value table before p))

@@ -3,19 +3,19 @@ use Rattle.std.specs.Prelude.{◌≡◌, ℕ, suc, List, Some, Result, Ok, Err, 
 use Rattle.b2_props.specs.Sets.{Pair, IsSet}
 use Rattle.b2_refine.specs.Choices.{IsChoice}
 use Rattle.b2_refine.specs.declared.choice.Choice.TheVariants as choices
-use Rattle.b2_metatargets.specs.declared.place.Target.{Target}
-use Rattle.b2_metatargets.specs.declared.whole.Declared.{Declared}
+use Rattle.b2_declared.specs.declared.place.Target.{Target}
+use Rattle.b2_declared.specs.declared.whole.Declared.{Declared}
 use Rattle.b2_references.specs.Names.{Name, features, alternatives}
 use Rattle.b2_alternatives.specs.Choosing.{Returned, Chosen, full_set, conditions, Chooses}
 use Rattle.b2_alternatives.specs.declared.fault.ChoiceFault.{ChoiceFault}
 use Rattle.b2_alternatives.specs.declared.fault.ChoiceFault.TheVariants.{NoAlternative, AmbiguousAlternative, Unstable, BadAnswer, Eval, OutOfMemory}
-use Rattle.b2_alternatives.specs.declared.choosing.Chosen.{Chosen as Settled}
-use Rattle.b2_alternatives.specs.declared.choosing.Selected.{Selected}
-use Rattle.b2_alternatives.specs.declared.choosing.Picked.{Picked}
-use Rattle.b2_alternatives.specs.declared.choosing.Picked.TheVariants.{None, Ambiguous, One}
+use Rattle.b2_alternatives.specs.declared.choosing.ChosenAlternative.{ChosenAlternative}
+use Rattle.b2_alternatives.specs.declared.choosing.FullChoice.{FullChoice}
+use Rattle.b2_alternatives.specs.declared.choosing.TargetChoice.{TargetChoice}
+use Rattle.b2_alternatives.specs.declared.choosing.TargetChoice.TheVariants.{None, Ambiguous, One}
 
 -- what was settled on for a main target
-abbrev pub seen : Name → Settled → Chosen
+abbrev pub seen : Name → ChosenAlternative → Chosen
 seen name c = record { name = name; number = c.number; target = c.target.now; set = c.set }
 
 -- this alternative stands at the place of a number
@@ -26,13 +26,13 @@ pub record IsAt (d : Declared) (name : Name) (full : List Pair) (number : ℕ) (
   pub at : slice_get (alternatives d name) place ≡ Some t
 
 -- which alternative a full set chooses
-abbrev pub IsPicked : Declared → Name → List Pair → Picked → Type 0
+abbrev pub IsPicked : Declared → Name → List Pair → TargetChoice → Type 0
 IsPicked d name full None = IsChoice full (conditions d name) choices.None
 IsPicked d name full (Ambiguous i k) = IsChoice full (conditions d name) (choices.Ambiguous i k)
 IsPicked d name full (One number target) = IsAt d name full number target.now
 
 -- the alternative that the full set of a main target chooses
-pub record IsSelection (d : Declared) (name : Name) (set : List Pair) (s : Selected) : Type 0 where
+pub record IsSelection (d : Declared) (name : Name) (set : List Pair) (s : FullChoice) : Type 0 where
   pub full : s.full ≡ full_set d name set
   pub is_set : IsSet (features d) s.full
   pub at : IsAt d name s.full s.number s.target.now
@@ -46,6 +46,6 @@ IsUnpicked d name set (BadAnswer target rule word) = ⊥
 IsUnpicked d name set (Eval fault) = ⊥
 IsUnpicked d name set OutOfMemory = Unit {0}
 
-abbrev pub IsSelected : {E : Type 0} → Declared → Name → List Pair → Result Selected (ChoiceFault E) → Type 0
+abbrev pub IsSelected : {E : Type 0} → Declared → Name → List Pair → Result FullChoice (ChoiceFault E) → Type 0
 IsSelected d name set (Ok s) = IsSelection d name set s
 IsSelected d name set (Err fault) = IsUnpicked d name set fault

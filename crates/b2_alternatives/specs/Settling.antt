@@ -3,20 +3,20 @@ use Rattle.std.specs.Prelude.{◌≡◌, ℕ, Bool, true, List, Option, Some, Re
 use Rattle.b2_props.specs.Sets.{Pair, IsSet}
 use Rattle.b2_props.specs.declared.requirement.Requirement.{Requirement}
 use Rattle.b2_refine.specs.Conditions.{IsSettled}
-use Rattle.b2_metatargets.specs.declared.place.Target.{Target}
-use Rattle.b2_metatargets.specs.declared.whole.Declared.{Declared}
+use Rattle.b2_declared.specs.declared.place.Target.{Target}
+use Rattle.b2_declared.specs.declared.whole.Declared.{Declared}
 use Rattle.b2_references.specs.Names.{Name, features, is_target, target_text}
-use Rattle.b2_evaluation.specs.Answers.{Answers}
-use Rattle.b2_evaluation.specs.declared.evaluate.Evaluate.{Ghosts as Evaluate}
+use Rattle.b2_evaluator.specs.Answers.{Answers}
+use Rattle.b2_evaluator.specs.declared.evaluate.Evaluate.{Ghosts as Evaluate}
 use Rattle.b2_alternatives.specs.Choosing.{answer, requirements, Chooses}
-use Rattle.b2_alternatives.specs.Asking.{HoldsOf, IsRefusal, Leaves}
+use Rattle.b2_alternatives.specs.IndirectRules.{HoldsOf, IsRefusal, Leaves}
 use Rattle.b2_alternatives.specs.Picking.{seen}
 use Rattle.b2_alternatives.specs.declared.asker.Asker.{Asker}
 use Rattle.b2_alternatives.specs.declared.fault.ChoiceFault.{ChoiceFault}
-use Rattle.b2_alternatives.specs.declared.choosing.Chosen.{Chosen as Settled}
+use Rattle.b2_alternatives.specs.declared.choosing.ChosenAlternative.{ChosenAlternative}
 
 -- what is chosen for a main target: its set is one of the table, and there is such a main target
-pub record IsGood (d : Declared) (name : Name) (c : Settled) : Type 0 where
+pub record IsGood (d : Declared) (name : Name) (c : ChosenAlternative) : Type 0 where
   pub is_set : IsSet (features d) c.set
   pub target : is_target d name ≡ true
 
@@ -38,7 +38,7 @@ module _ {S E K : Type 0} (answers : S → Option (Answers E)) (kept : S → K) 
       (IsSet (features d)) d after old new result
 
   -- what is chosen for a main target and a set
-  abbrev pub IsChoosing : Declared → Declared → S → S → Name → List Pair → Result Settled (ChoiceFault E) → Type 0
+  abbrev pub IsChoosing : Declared → Declared → S → S → Name → List Pair → Result ChosenAlternative (ChoiceFault E) → Type 0
   IsChoosing d after old new name set result =
       Tells (λ told c. Chooses d told.returned name set (Ok (seen name c))) (λ told fault. Chooses d told.returned name set (Err fault)) (IsGood d name) d after old new result
 
@@ -55,7 +55,7 @@ module _ {S E : Type 0} (e : Evaluate S E) where
   SettlesFor old new name full target result = Settles old new name full (requirements old.index.now target) result
 
   -- what is chosen for a main target and a set
-  abbrev pub ChoosesBy : Asker S → Asker S → Name → List Pair → Result Settled (ChoiceFault E) → Type 0
+  abbrev pub ChoosesBy : Asker S → Asker S → Name → List Pair → Result ChosenAlternative (ChoiceFault E) → Type 0
   ChoosesBy old new name set result =
       IsChoosing e.answers e.kept e.faults e.is_host_fault e.is_out_of_memory e.CanFault old.index.now new.index.now old.evaluator new.evaluator name set result
 
@@ -65,5 +65,5 @@ module _ {S E : Type 0} (e : Evaluate S E) where
       IfErr result (HoldsOf e.is_host_fault e.is_out_of_memory (λ fault. Chooses asker.index.now told.returned name set (Err fault)))
 
 -- what is answered is chosen
-abbrev pub GivesBy : {S E F : Type 0} → Asker S → Answers E → Name → List Pair → Result Settled F → Type 0
+abbrev pub GivesBy : {S E F : Type 0} → Asker S → Answers E → Name → List Pair → Result ChosenAlternative F → Type 0
 GivesBy asker told name set result = IfOk result (λ c. Chooses asker.index.now told.returned name set (Ok (seen name c)))

@@ -2,17 +2,17 @@
 use Rattle.std.specs.Prelude.{not, ◌||◌, List, [], ◌∷◌, ◌++◌, filter, map, if◌then◌else◌}
 use Rattle.std.specs.List.{flat_map}
 use Rattle.b2_features.specs.declared.attribute.Attribute.TheVariants.{Free}
-use Rattle.b2_features.specs.Table.{Declared as Feature}
+use Rattle.b2_features.specs.Table.{DeclaredFeature}
 use Rattle.b2_features.specs.Faults.{is_with}
 use Rattle.b2_props.specs.Sets.{Pair}
 use Rattle.b2_props.specs.Membership.{has_all}
 use Rattle.b2_props.specs.Refinement.{names}
 use Rattle.b2_props.specs.declared.requirement.Requirement.{Requirement}
 use Rattle.b2_props.specs.declared.requirement.Requirement.TheVariants.{Plain, Indirect}
-use Rattle.b2_declarations.specs.declared.declaration.Kind.{Kind}
-use Rattle.b2_declarations.specs.declared.declaration.Kind.TheVariants.{Exe, Lib, Obj, Alias, Make, Install}
-use Rattle.b2_metatargets.specs.declared.place.Target.{Target}
-use Rattle.b2_metatargets.specs.declared.whole.Declared.{Declared}
+use Rattle.b2_declaring_calls.specs.declared.declaration.Kind.{Kind}
+use Rattle.b2_declaring_calls.specs.declared.declaration.Kind.TheVariants.{Exe, Lib, Obj, Alias, Make, Install}
+use Rattle.b2_declared.specs.declared.place.Target.{Target}
+use Rattle.b2_declared.specs.declared.whole.Declared.{Declared}
 use Rattle.b2_references.specs.Names.{features, lineage}
 
 -- what usage requirements give in a set: the property of each whose conditions all are in it; no rule answers one
@@ -24,7 +24,7 @@ abbrev pub usage_in : List Pair → List Requirement → List Pair
 usage_in set usage = flat_map (usage_pairs set) usage
 
 -- pairs of several levels, the lowest last: one of a feature that is not free yields where a level below it names the feature
-abbrev pub yielding : List Feature → List (List Pair) → List Pair
+abbrev pub yielding : List DeclaredFeature → List (List Pair) → List Pair
 yielding table [] = []
 yielding table (level ∷ below) = filter (λ p. is_with Free table p.0 || not (names (flat_map (λ pairs. pairs) below) p.0)) level ++ yielding table below
 

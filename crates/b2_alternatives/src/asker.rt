@@ -2,15 +2,15 @@
 ghost use Rattle.std.specs.Prelude.{◌≡◌, length, IfOk};
 ghost use Rattle.b2_references.specs.Names.{dir_of, target_text};
 ghost use Rattle.b2_alternatives.specs.Choosing.{answered, answer_by};
-ghost use Rattle.b2_alternatives.specs.Asking.{is_eval, is_memory, IsKnown, told_answer, Setting, IsAnswer};
+ghost use Rattle.b2_alternatives.specs.IndirectRules.{is_eval, is_memory, IsKnown, told_answer, Setting, IsAnswer};
 ghost use Rattle.b2_alternatives.specs.declared.fault.ChoiceFault.TheVariants as faults;
 
 use crate::fault::ChoiceFault;
-use crate::reading::{Reading, answered};
+use crate::reading::{ReturnedProperties, answered};
 use b2_base::fault::OutOfMemory;
 use b2_base::text::Text;
-use b2_evaluation::evaluate::Evaluate;
-use b2_metatargets::place::IndirectRule;
+use b2_declared::place::IndirectRule;
+use b2_evaluator::evaluate::Evaluate;
 use b2_props::pair_list::PairList;
 use b2_props::property_texts::property_texts;
 use b2_props::props::Props;
@@ -46,8 +46,8 @@ fn answer<F: Drop>(
 {
     let dir = index.dir_of(rule.project)?;
     match answered(alloc, index.declared(), &dir, texts)? {
-        Reading::Properties(pairs) => Ok(pairs),
-        Reading::Bad(word) => Err(bad_answer(index, name, rule, word)?),
+        ReturnedProperties::Properties(pairs) => Ok(pairs),
+        ReturnedProperties::Bad(word) => Err(bad_answer(index, name, rule, word)?),
     }
 }
 
@@ -63,7 +63,7 @@ pub struct Asker<'a, E: Drop> {
 
 impl<'a, E: Evaluate + Drop> Ask for Asker<'a, E> {
     ghost use Rattle.std.specs.Prelude.{◌≡◌, ◌<◌, length};
-    ghost use Rattle.b2_alternatives.specs.Asking.{is_eval, is_memory, IsKnown, told_answer, Setting};
+    ghost use Rattle.b2_alternatives.specs.IndirectRules.{is_eval, is_memory, IsKnown, told_answer, Setting};
 
     type Fault = ChoiceFault<E::Fault>;
 

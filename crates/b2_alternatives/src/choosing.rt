@@ -3,20 +3,21 @@ ghost use Rattle.std.specs.Prelude.{◌≡◌, true, Some, All, length, IfOk};
 ghost use Rattle.b2_props.specs.Sets.{IsSet};
 ghost use Rattle.b2_props.specs.Requirements.{AsksBelow};
 ghost use Rattle.b2_references.specs.Names.{features, is_target, target_text};
-ghost use Rattle.b2_evaluation.specs.Answers.{Answers};
+ghost use Rattle.b2_evaluator.specs.Answers.{Answers};
 ghost use Rattle.b2_alternatives.specs.declared.fault.ChoiceFault.TheVariants as faults;
 ghost use Rattle.b2_alternatives.specs.Choosing.{full_set, requirements};
-ghost use Rattle.b2_alternatives.specs.Asking.{Leaves};
+ghost use Rattle.b2_alternatives.specs.IndirectRules.{Leaves};
 ghost use Rattle.b2_alternatives.specs.Picking.{IsPicked, IsSelection, IsSelected};
-ghost use Rattle.b2_metatargets.specs.Numbered.{IsNumbered};
+ghost use Rattle.b2_declared.specs.Numbered.{IsNumbered};
 ghost use Rattle.b2_alternatives.specs.Settling.{Settles, SettlesFor, ChoosesBy, GivesBy, RefusesBy};
 
 use crate::asker::Asker;
 use crate::conditions::{conditions, requirements};
 use crate::fault::ChoiceFault;
 use b2_base::fault::OutOfMemory;
-use b2_evaluation::evaluate::Evaluate;
-use b2_metatargets::place::Target;
+use b2_declared::place::Target;
+use b2_evaluator::evaluate::Evaluate;
+use b2_property_texts::missing::with_missing;
 use b2_props::props::Props;
 use b2_props::refinement::{expand, set_of};
 use b2_props::requirement::Requirement;
@@ -25,12 +26,11 @@ use b2_references::name::TargetName;
 use b2_refine::choice::{Choice, choose as choose_among};
 use b2_refine::evaluate::evaluate;
 use b2_refine::fault::RefineFault;
-use b2_texts::missing::with_missing;
 use std::alloc::Global;
 
 /// The alternative that was settled on, by its number from 1, and the set of its properties.
 #[derive(Drop)]
-pub struct Chosen<'a> {
+pub struct ChosenAlternative<'a> {
     pub number: usize,
     pub target: &'a Target,
     pub set: Props,
@@ -38,14 +38,14 @@ pub struct Chosen<'a> {
 
 /// The alternative that a full set chooses, with this set.
 #[derive(Drop)]
-struct Selected<'a> {
+struct FullChoice<'a> {
     full: Props,
     number: usize,
     target: &'a Target,
 }
 
 /// Which alternative a full set chooses.
-enum Picked<'a> {
+enum TargetChoice<'a> {
     None,
     Ambiguous { i: usize, k: usize },
     One { number: usize, target: &'a Target },
@@ -75,15 +75,15 @@ fn pick<'a>(
     index: &Index<'a>,
     name: &TargetName,
     full: &Props,
-) -> Result<Picked<'a>, OutOfMemory>
+) -> Result<TargetChoice<'a>, OutOfMemory>
     ensures { IfOk result (IsPicked index.now name.now full.now) }
 {
     let alternatives = index.alternatives(name.project(), name.name())?;
     let conditions = conditions(alloc, &index.declared().registry, alternatives.as_slice())?;
     match choose_among(conditions.as_slice(), full) {
-        Choice::None => Ok(Picked::None),
-        Choice::Ambiguous { i, k } => Ok(Picked::Ambiguous { i, k }),
-        Choice::One(number) => Ok(Picked::One {
+        Choice::None => Ok(TargetChoice::None),
+        Choice::Ambiguous { i, k } => Ok(TargetChoice::Ambiguous { i, k }),
+        Choice::One(number) => Ok(TargetChoice::One {
             number,
             target: alternatives[number - 1],
         }),
@@ -143,14 +143,14 @@ fn select<'a, F: Drop>(
     index: &Index<'a>,
     name: &TargetName,
     set: &Props,
-) -> Result<Selected<'a>, ChoiceFault<F>>
+) -> Result<FullChoice<'a>, ChoiceFault<F>>
     ensures { IsSelected index.now name.now set.now result }
 {
     let full = full_set(alloc, index, name, set)?;
     match pick(alloc, index, name, &full)? {
-        Picked::None => Err(no_alternative(index, name, full)?),
-        Picked::Ambiguous { i, k } => Err(ambiguous(index, name, full, i, k)?),
-        Picked::One { number, target } => Ok(Selected {
+        TargetChoice::None => Err(no_alternative(index, name, full)?),
+        TargetChoice::Ambiguous { i, k } => Err(ambiguous(index, name, full, i, k)?),
+        TargetChoice::One { number, target } => Ok(FullChoice {
             full,
             number,
             target,
@@ -206,15 +206,15 @@ fn settle_on<'a, E: Evaluate + Drop>(
     asker: &mut Asker<'a, E>,
     name: &TargetName,
     set: &Props,
-    selected: Selected<'a>,
-) -> Result<Chosen<'a>, ChoiceFault<E::Fault>>
+    selected: FullChoice<'a>,
+) -> Result<ChosenAlternative<'a>, ChoiceFault<E::Fault>>
     requires numbered { IsNumbered (asker.old.index.now) }
     requires selected { IsSelection (asker.old.index.now) name.now set.now selected }
     ensures { ChoosesBy E.Evaluate asker.old asker.new name.now set.now result }
 {
     match settle_for(asker, name, &selected.full, selected.target) {
         Err(fault) => Err(fault),
-        Ok(set) => Ok(Chosen {
+        Ok(set) => Ok(ChosenAlternative {
             number: selected.number,
             target: selected.target,
             set,
@@ -226,7 +226,7 @@ fn choose_by<'a, E: Evaluate + Drop>(
     asker: &mut Asker<'a, E>,
     name: &TargetName,
     set: &Props,
-) -> Result<Chosen<'a>, ChoiceFault<E::Fault>>
+) -> Result<ChosenAlternative<'a>, ChoiceFault<E::Fault>>
     requires { IsNumbered (asker.old.index.now) }
     ensures { ChoosesBy E.Evaluate asker.old asker.new name.now set.now result }
 {
@@ -243,7 +243,7 @@ pub fn choose<'a, E: Evaluate + Drop>(
     asker: &mut Asker<'a, E>,
     name: &TargetName,
     set: &Props,
-) -> Result<Chosen<'a>, ChoiceFault<E::Fault>>
+) -> Result<ChosenAlternative<'a>, ChoiceFault<E::Fault>>
     requires { IsNumbered (asker.old.index.now) }
     ensures chosen { (told : Answers E.Fault) → E.answers asker.old.evaluator ≡ Some told → GivesBy asker.old told name.now set.now result }
     ensures refused { (told : Answers E.Fault) → E.answers asker.old.evaluator ≡ Some told → RefusesBy E.Evaluate asker.old told name.now set.now result }

@@ -7,9 +7,9 @@ ghost use Rattle.b2_alternatives.specs.Choosing.{is_base, condition, requirement
 use b2_base::fault::OutOfMemory;
 use b2_base::list::List;
 use b2_base::text::Text;
+use b2_declared::place::{Place, Target};
 use b2_features::attribute::Attribute;
 use b2_features::registry::Registry;
-use b2_metatargets::place::{Place, Target};
 use b2_props::lookups::is_with;
 use b2_props::pair_list::PairList;
 use b2_props::requirement::Requirement;

@@ -3,7 +3,7 @@ ghost use Rattle.std.specs.Prelude.{◌≡◌, [], List, Option, IfOk, OnOk};
 ghost use Rattle.std.specs.Option.{option_copied};
 ghost use Rattle.b2_props.specs.Sets.{Pair};
 ghost use Rattle.b2_alternatives.specs.Needs.{other_value};
-ghost use Rattle.b2_alternatives.specs.Standing.{AreValues};
+ghost use Rattle.b2_alternatives.specs.DependencyWork.{AreValues};
 ghost use Rattle.b2_alternatives.specs.Conflicting.{Meets, HasFirst};
 
 use b2_base::fault::OutOfMemory;

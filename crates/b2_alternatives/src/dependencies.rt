@@ -1,18 +1,18 @@
 //! What a main target depends on, while it is generated.
 ghost use Rattle.std.specs.Prelude.{◌≡◌, IfOk, OnOk};
 ghost use Rattle.b2_props.specs.Sets.{IsSet};
-ghost use Rattle.b2_metatargets.specs.declared.whole.Declared.{Declared};
-ghost use Rattle.b2_metatargets.specs.declared.place.Target.{Target as TargetValue};
+ghost use Rattle.b2_declared.specs.declared.whole.Declared.{Declared};
+ghost use Rattle.b2_declared.specs.declared.place.Target.{Target as TargetValue};
 ghost use Rattle.b2_references.specs.Names.{features};
 ghost use Rattle.b2_alternatives.specs.Needs.{Under, at_first, next, property_needs};
-ghost use Rattle.b2_alternatives.specs.Standing.{StandAt, Adds, Takes};
+ghost use Rattle.b2_alternatives.specs.DependencyWork.{StandAt, Adds, Takes};
 
 use crate::conflict::{Conflict, Values};
 use crate::known::KnownNames;
 use crate::need::{Need, Next, property_needs, source_needs};
 use crate::need_list::NeedList;
 use b2_base::fault::OutOfMemory;
-use b2_metatargets::place::Target;
+use b2_declared::place::Target;
 use b2_props::pair_list::PairList;
 use b2_props::props::Props;
 use b2_props::refinement::refine;

@@ -1,7 +1,7 @@
 //! Names of main targets that are looked up.
 ghost use Rattle.std.specs.Prelude.{◌≡◌, ◌++◌, ◌∷◌, [], List, OnOk};
 ghost use Rattle.b2_references.specs.Names.{Name};
-ghost use Rattle.b2_alternatives.specs.Standing.{is_known, AreKnown};
+ghost use Rattle.b2_alternatives.specs.DependencyWork.{is_known, AreKnown};
 
 use b2_base::fault::OutOfMemory;
 use b2_references::name::TargetName;

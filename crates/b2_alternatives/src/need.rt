@@ -15,7 +15,7 @@ use std::alloc::Global;
 
 /// How a target needs something.
 #[derive(Clone, Copy)]
-pub enum Way {
+pub enum NeedKind {
     /// As a source: one of its sources, or the value of a `<source>` property.
     Source,
     /// As a library, by a `<library>` property.
@@ -27,7 +27,7 @@ pub enum Way {
 /// A source or a dependency property: how it is needed, its text, and what that names.
 #[derive(Drop)]
 pub struct Need {
-    pub way: Way,
+    pub way: NeedKind,
     pub text: Text,
     pub meaning: Meaning,
 }
@@ -43,15 +43,15 @@ pub enum Next {
     Due { name: TargetName },
 }
 
-fn way_of(feature: &str) -> Way
+fn way_of(feature: &str) -> NeedKind
     ensures { result ≡ way_of feature.now }
 {
     if feature == "source" {
-        Way::Source
+        NeedKind::Source
     } else if feature == "library" {
-        Way::Library
+        NeedKind::Library
     } else {
-        Way::Order
+        NeedKind::Order
     }
 }
 
@@ -65,7 +65,7 @@ fn source_need(
 {
     let meaning = source_meaning(alloc, index, project, text)?;
     Ok(Need {
-        way: Way::Source,
+        way: NeedKind::Source,
         text: text.copy()?,
         meaning,
     })

@@ -4,7 +4,7 @@ ghost use Rattle.std.specs.Option.{option_copied};
 ghost use Rattle.b2_references.specs.Names.{Name};
 ghost use Rattle.b2_alternatives.specs.Needs.{next_by, next_among};
 ghost use Rattle.b2_alternatives.specs.declared.need.Next.TheVariants as nexts;
-ghost use Rattle.b2_alternatives.specs.Standing.{is_known, AreKnown, is_complete, AreMet, Finds};
+ghost use Rattle.b2_alternatives.specs.DependencyWork.{is_known, AreKnown, is_complete, AreMet, Finds};
 
 use crate::known::KnownNames;
 use crate::need::{Need, Next};
@@ -29,7 +29,7 @@ impl Drop for NeedList {
 
 /// What comes next by a list of needs, and the place of the need that asks for it.
 #[derive(Drop)]
-struct Found {
+struct NextNeed {
     place: usize,
     next: Next,
 }
@@ -67,16 +67,16 @@ fn next_by(need: &Need, done: &KnownNames) -> Result<Next, OutOfMemory>
 }
 
 /// What comes next by some needs, of which those before a place are met.
-fn first_next(needs: &[Need], done: &KnownNames, from: usize) -> Result<Found, OutOfMemory>
+fn first_next(needs: &[Need], done: &KnownNames, from: usize) -> Result<NextNeed, OutOfMemory>
     ensures { (known : List Name) → AreKnown known done.now → AreMet known needs.now from → IfOk result (λ found. Finds known needs.now found.place found.next) }
 {
     for place in from..needs.len() {
         let next = next_by(&needs[place], done)?;
         if !is_complete(&next) {
-            return Ok(Found { place, next });
+            return Ok(NextNeed { place, next });
         }
     }
-    Ok(Found {
+    Ok(NextNeed {
         place: needs.len(),
         next: Next::Complete,
     })

@@ -1,20 +1,20 @@
 //! The texts that the rule of an indirect requirement returned.
 ghost use Rattle.std.specs.Prelude.{◌≡◌, is_some, codes, IfOk};
-ghost use Rattle.b2_texts.specs.Cuts.{cut_at};
+ghost use Rattle.b2_property_texts.specs.Cuts.{cut_at};
 ghost use Rattle.b2_alternatives.specs.Choosing.{answered_pair, answered};
 
 use b2_base::fault::OutOfMemory;
 use b2_base::path::Path;
 use b2_base::text::Text;
+use b2_declared::whole::Declared;
 use b2_features::fault::FeatureFault;
-use b2_metatargets::whole::Declared;
+use b2_property_texts::reading::read_property;
 use b2_props::pair_list::PairList;
-use b2_texts::reading::read_property;
 use std::alloc::Global;
 
 /// Texts that a rule returned, as properties, or the first of them that is none.
 #[derive(Drop)]
-pub enum Reading {
+pub enum ReturnedProperties {
     Properties(PairList),
     Bad(Text),
 }
@@ -51,15 +51,15 @@ pub(crate) fn answered(
     declared: &Declared,
     dir: &Path,
     texts: &[Text],
-) -> Result<Reading, OutOfMemory>
+) -> Result<ReturnedProperties, OutOfMemory>
     ensures { IfOk result (λ reading. reading ≡ answered declared.now dir.now texts.now) }
 {
     let mut made = PairList::new(alloc);
     for text in texts {
         match answered_pair(alloc, declared, dir, text)? {
             Some((feature, value)) => made.push(feature, value)?,
-            None => return Ok(Reading::Bad(text.copy()?)),
+            None => return Ok(ReturnedProperties::Bad(text.copy()?)),
         }
     }
-    Ok(Reading::Properties(made))
+    Ok(ReturnedProperties::Properties(made))
 }

@@ -9,7 +9,7 @@ use Rattle.b2_runs.specs.Numbers.{NeededOf.first, NeededOf.of_needed}
 use Rattle.b2_sched.specs.declared.state.State.TheVariants.{Settled}
 use Rattle.b2_sched.specs.NumberSets.{Has}
 use Rattle.b2_sched.specs.Schedules.{Schedule, state_of, IsUnjudged, IsSettled, IsStep, Needs, IsFirst, IsNeeded, Lacks, CanLook}
-use Rattle.b2_sched.specs.Calls.{looked_at, with_lack}
+use Rattle.b2_sched.specs.SchedulerCalls.{looked_at, with_lack}
 use Rattle.b2_sched.proofs.IndexFindsTheLowest.{has_still, had_or_is, has_other}
 use Rattle.b2_sched.proofs.ChangesKeepTheInvariant.{needed_more}
 use Rattle.b2_facts.specs.Facts.{Knowledge}

@@ -10,7 +10,7 @@ use Rattle.b2_sched.specs.declared.state.State.{State}
 use Rattle.b2_sched.specs.declared.state.State.TheVariants.{Unjudged, Stale, Running, Settled, Failed}
 use Rattle.b2_sched.specs.NumberSets.{Has}
 use Rattle.b2_sched.specs.Schedules.{Schedule, state_of, IsUnjudged, IsStale, IsRunning, IsSettled, IsStep, Needs, IsFirst, IsNeeded, Lacks, CanLook}
-use Rattle.b2_sched.specs.Calls.{IsNew, with_stale, with_start, with_failure, Settles}
+use Rattle.b2_sched.specs.SchedulerCalls.{IsNew, with_stale, with_start, with_failure, Settles}
 use Rattle.b2_sched.specs.Sound.{IsSound}
 use Rattle.b2_sched.proofs.IndexFindsTheLowest.{has_other}
 use Rattle.b2_sched.proofs.ChangesKeepTheInvariant.{needed_more}

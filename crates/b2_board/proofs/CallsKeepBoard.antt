@@ -7,7 +7,7 @@ use Rattle.b2_plan.specs.Plans.{step_at}
 use Rattle.b2_facts.proofs.ListsAtPlaces.{get_some}
 use Rattle.b2_plan.specs.declared.plan.Plan.{Plan}
 use Rattle.b2_sched.specs.Schedules.{Schedule, IsStep, IsNeeded, IsUnjudged, CanLook}
-use Rattle.b2_sched.specs.Calls.{looked_at, with_start, StartsNext, StartsNone}
+use Rattle.b2_sched.specs.SchedulerCalls.{looked_at, with_start, StartsNext, StartsNone}
 use Rattle.b2_sched.specs.Keeping.{LooksNext}
 use Rattle.b2_sched.specs.Sound.{IsSound}
 use Rattle.b2_sched.proofs.IndexFindsTheLowest.{has_within}

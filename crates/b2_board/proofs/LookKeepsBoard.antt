@@ -11,10 +11,10 @@ use Rattle.b2_plan.specs.Plans.{step_at}
 use Rattle.b2_runs.proofs.FirstElementOrLater.{Contains_nil}
 use Rattle.b2_runs.proofs.NumberHasOneStep.{one_step}
 use Rattle.b2_sched.specs.Schedules.{Schedule, IsStep, IsNeeded, IsUnjudged, IsSettled}
-use Rattle.b2_sched.specs.Calls.{with_lack}
-use Rattle.b2_facts.specs.declared.stop.Stop.{Stop}
+use Rattle.b2_sched.specs.SchedulerCalls.{with_lack}
+use Rattle.b2_facts.specs.declared.stop.FilesStop.{FilesStop}
 use Rattle.b2_facts.specs.declared.file_facts.FileFacts.{FileFacts}
-use Rattle.b2_facts.specs.declared.file_facts.Seen.TheVariants as seen
+use Rattle.b2_facts.specs.declared.file_facts.FileLook.TheVariants as seen
 use Rattle.b2_facts.specs.Facts.{Knowledge, IsAbout}
 use Rattle.b2_facts.specs.Growth.{Learns, OfNone}
 use Rattle.b2_facts.specs.Growth as facts
@@ -162,6 +162,6 @@ pub on_ok : {T E : Type 0} (P Q : Type 0) (r : Result T E) → OnOk r P → (P �
 on_ok P Q (Ok x) p more = more p
 on_ok P Q (Err e) p more = tt
 
-pub look_told : (steps : List Step) (r : Result Bool Stop) (g : Knowledge) (s : Schedule) (b : Board) (number : ℕ) (v : Work) → OnOk r (LooksOnce steps g number s b.sched v) → IfOk r (λ closed. IsClosedTold closed b.sched g number v) → work_at b.works.items number ≡ Some v → IfOk r (λ closed. IsLookOf closed g b number)
+pub look_told : (steps : List Step) (r : Result Bool FilesStop) (g : Knowledge) (s : Schedule) (b : Board) (number : ℕ) (v : Work) → OnOk r (LooksOnce steps g number s b.sched v) → IfOk r (λ closed. IsClosedTold closed b.sched g number v) → work_at b.works.items number ≡ Some v → IfOk r (λ closed. IsLookOf closed g b number)
 look_told steps (Ok closed) g s b number v looks told begun = look_of closed g b number v begun looks.looked told
 look_told steps (Err stop) g s b number v looks told begun = tt

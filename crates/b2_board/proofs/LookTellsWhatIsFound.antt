@@ -12,10 +12,10 @@ use Rattle.b2_runs.proofs.FirstElementOrLater.{Contains_there, Contains_nil}
 use Rattle.b2_runs.proofs.NumberHasOneStep.{one_step}
 use Rattle.b2_sched.specs.declared.state.State.TheVariants.{Settled}
 use Rattle.b2_sched.specs.Schedules.{Schedule, IsSettled, IsStep, Lacks}
-use Rattle.b2_sched.specs.Calls.{with_lack}
+use Rattle.b2_sched.specs.SchedulerCalls.{with_lack}
 use Rattle.b2_sched.proofs.IndexFindsTheLowest.{has_set}
 use Rattle.b2_facts.specs.declared.file_facts.FileFacts.{FileFacts}
-use Rattle.b2_facts.specs.declared.stop.Stop.TheVariants as stops
+use Rattle.b2_facts.specs.declared.stop.FilesStop.TheVariants as stops
 use Rattle.b2_facts.specs.Facts.{Knowledge, IsAbout, file_at}
 use Rattle.b2_facts.specs.Growth as facts
 use Rattle.b2_facts.proofs.ListsAtPlaces.{among_at, get_front}

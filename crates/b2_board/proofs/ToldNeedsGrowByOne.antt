@@ -10,7 +10,7 @@ use Rattle.b2_runs.proofs.FirstElementOrLater.{Contains_here, Contains_nil}
 use Rattle.b2_sched.specs.declared.state.State.TheVariants.{Settled}
 use Rattle.b2_sched.specs.NumberSets.{Has}
 use Rattle.b2_sched.specs.Schedules.{Schedule, dependents_of, IsSettled, IsStep, Needs, CanLook}
-use Rattle.b2_sched.specs.Calls.{with_need, is_empty}
+use Rattle.b2_sched.specs.SchedulerCalls.{with_need, is_empty}
 use Rattle.b2_sched.proofs.IndexFindsTheLowest.{has_set, has_still}
 use Rattle.b2_board.specs.Needs.{itself, looks_left, IsEven, TellsNeeds}
 

@@ -6,7 +6,7 @@ use Rattle.std.proofs.lemmas.Option.{slice_get_within}
 use Rattle.b2_plan.specs.declared.step.Step.{Step}
 use Rattle.b2_sched.specs.Schedules.{Schedule, IsSettled, Needs, Lacks}
 use Rattle.b2_facts.specs.declared.file_facts.FileFacts.{FileFacts}
-use Rattle.b2_facts.specs.declared.file_facts.Seen.TheVariants as seen
+use Rattle.b2_facts.specs.declared.file_facts.FileLook.TheVariants as seen
 use Rattle.b2_facts.specs.Facts.{Knowledge, IsNumber, file_at, with_file}
 use Rattle.b2_facts.specs.Growth as facts
 use Rattle.b2_facts.proofs.ListsAtPlaces.{some_is, get_some, among_at, at_place, set_here, set_there}

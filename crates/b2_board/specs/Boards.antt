@@ -3,7 +3,7 @@ use Rattle.std.specs.Prelude.{◌≡◌, ◌↔◌, ◌⊎◌, ℕ, ◌+◌, Boo
 use Rattle.b2_plan.specs.declared.step.Step.{Step}
 use Rattle.b2_plan.specs.declared.plan.Plan.{Plan}
 use Rattle.b2_sched.specs.Schedules.{Schedule, IsUnjudged, IsSettled, IsStep, Needs, IsFirst, IsNeeded, Lacks, CanLook}
-use Rattle.b2_sched.specs.Calls.{MakesOneOf}
+use Rattle.b2_sched.specs.SchedulerCalls.{MakesOneOf}
 use Rattle.b2_facts.specs.Facts.{Knowledge}
 use Rattle.b2_board.specs.declared.board.Board.{Board}
 use Rattle.b2_board.specs.declared.work.Work.{Work}

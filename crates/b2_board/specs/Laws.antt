@@ -8,7 +8,7 @@ use Rattle.b2_runs.specs.Numbers.{MakesWanted, NeedsStep, LacksSource}
 use Rattle.b2_sched.specs.Schedules.{IsFirst, IsNeeded, IsSettled, Needs, Lacks, CanLook, AreJudged}
 use Rattle.b2_sched.specs.Joins.{IsToldAll, HasSettled}
 use Rattle.b2_facts.specs.declared.file_facts.FileFacts.{FileFacts}
-use Rattle.b2_facts.specs.declared.file_facts.Seen.TheVariants as seen
+use Rattle.b2_facts.specs.declared.file_facts.FileLook.TheVariants as seen
 use Rattle.b2_facts.specs.Facts.{Knowledge, IsAbout, file_at, with_file}
 use Rattle.b2_facts.specs.Growth as facts
 use Rattle.b2_reach.specs.Laws.{IsTrueInRun}

@@ -2,7 +2,7 @@
 use Rattle.std.specs.Prelude.{◌≡◌, ◌⊎◌, ℕ, ◌+◌, ◌≤◌, Bool, List, length, count_by}
 use Rattle.std.specs.List.{Contains}
 use Rattle.b2_sched.specs.Schedules.{Schedule, IsSettled, Needs, CanLook}
-use Rattle.b2_sched.specs.Calls.{is_empty}
+use Rattle.b2_sched.specs.SchedulerCalls.{is_empty}
 
 -- how often steps may still be looked at, while none is judged: those that can be, and those that none needs yet
 abbrev pub itself : Bool → Bool

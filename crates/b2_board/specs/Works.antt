@@ -4,7 +4,7 @@ use Rattle.std.specs.List.{Contains}
 use Rattle.b2_plan.specs.declared.step.Step.{Step}
 use Rattle.b2_plan.specs.Plans.{step_at}
 use Rattle.b2_sched.specs.Schedules.{Schedule, IsSettled, Needs, Lacks}
-use Rattle.b2_sched.specs.Calls.{with_lack}
+use Rattle.b2_sched.specs.SchedulerCalls.{with_lack}
 use Rattle.b2_facts.specs.declared.file_facts.FileFacts.{FileFacts}
 use Rattle.b2_facts.specs.Facts.{Knowledge, file_at}
 use Rattle.b2_reach.specs.Reaches.{IsReachOf, IsAsFar}

@@ -4,7 +4,7 @@ ghost use Rattle.b2_plan.specs.Plans.{step_at};
 ghost use Rattle.b2_plan.specs.declared.plan.Plan.{Plan};
 ghost use Rattle.b2_plan.specs.declared.step.Step.{Step};
 ghost use Rattle.b2_sched.specs.Schedules.{IsStep, IsNeeded, IsUnjudged, IsRunning, IsSettled, CanLook};
-ghost use Rattle.b2_sched.specs.Calls.{looked_at, with_stale, with_start, with_failure, Settles, StartsNext, StartsNone};
+ghost use Rattle.b2_sched.specs.SchedulerCalls.{looked_at, with_stale, with_start, with_failure, Settles, StartsNext, StartsNone};
 ghost use Rattle.b2_sched.specs.Keeping.{LooksNext};
 ghost use Rattle.b2_facts.specs.Facts.{Knowledge, IsAbout};
 ghost use Rattle.b2_facts.specs.Growth.{Learns, OfNone};
@@ -19,7 +19,7 @@ ghost use Rattle.b2_board.specs.Boards.{IsBoard, IsOver, IsLookOf, NeedsMore, wo
 use crate::steps::step_of;
 use crate::work::Work;
 use b2_base::fault::OutOfMemory;
-use b2_facts::stop::Stop;
+use b2_facts::stop::FilesStop;
 use b2_host::files::Files;
 use b2_plan::plan::Plan;
 use b2_reach::reach::Reach;
@@ -122,7 +122,7 @@ impl Board {
         files: &mut F,
         number: u32,
         notes: bool,
-    ) -> Result<bool, Stop>
+    ) -> Result<bool, FilesStop>
         requires about { IsAbout plan.now.steps plan.now.roots sights.old.facts }
         requires board { IsBoard plan.now number sights.old.facts self.old }
         requires step { IsStep self.old.sched number }
@@ -157,7 +157,7 @@ impl Board {
         files: &mut F,
         number: u32,
         notes: bool,
-    ) -> Result<bool, Stop>
+    ) -> Result<bool, FilesStop>
         requires about { IsAbout plan.now.steps plan.now.roots sights.old.facts }
         requires board { IsBoard plan.now number sights.old.facts self.old }
         requires step { IsStep self.old.sched number }

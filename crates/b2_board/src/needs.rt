@@ -2,7 +2,7 @@
 ghost use Rattle.std.specs.Prelude.{◌≡◌, ◌⊎◌, ℕ, OnOk};
 ghost use Rattle.std.specs.List.{Contains};
 ghost use Rattle.b2_sched.specs.Schedules.{IsStep, IsNeeded, IsSettled};
-ghost use Rattle.b2_sched.specs.Calls.{with_need};
+ghost use Rattle.b2_sched.specs.SchedulerCalls.{with_need};
 ghost use Rattle.b2_board.specs.Needs.{IsEven, TellsNeeds};
 
 use b2_base::fault::OutOfMemory;

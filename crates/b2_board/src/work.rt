@@ -15,7 +15,7 @@ use crate::needs::tell_needs;
 use crate::waiting::Waiting;
 use b2_base::fault::OutOfMemory;
 use b2_facts::facts::Facts;
-use b2_facts::stop::Stop;
+use b2_facts::stop::FilesStop;
 use b2_host::files::Files;
 use b2_plan::plan::Plan;
 use b2_reach::reach::Reach;
@@ -130,7 +130,7 @@ impl Work {
         files: &mut F,
         number: u32,
         notes: bool,
-    ) -> Result<bool, Stop>
+    ) -> Result<bool, FilesStop>
         requires about { IsAbout plan.now.steps plan.now.roots sights.old.facts }
         requires schedule { IsOfPlan plan.now sched.old }
         requires even { IsEven sched.old }

@@ -22,7 +22,7 @@ use Rattle.b2_sessions.specs.declared.fault.SessionFault.TheVariants as faults
 use Rattle.b2_sessions.proofs.RunsAreSessions.{is_session}
 use Rattle.b2_top.specs.declared.answer.Answer.{Answer}
 use Rattle.b2_top.specs.declared.answer.Answer.TheVariants as answers
-use Rattle.b2_drill_call.specs.Drilled.{begun, RunsOver, HasAnswered, IsDrilled, is_well, GoesWell}
+use Rattle.b2_drill_call.specs.Drilled.{begun, RunsOver, HasAnswered, IsDrilled, is_well, GoesWithoutFaults}
 use Rattle.b2_drill_call.proofs.DrillsGoWell.{IsDrillOf, goes_well}
 use Rattle.b2_drill_laws.specs.Laws.{DrillsGoWell}
 
@@ -40,8 +40,8 @@ rounds_give : (n : ℕ) → count_by gives_answer (rounds n 5) ≡ 5
 unfolding rounds
 rounds_give n = refl
 
-pub seven_answers : (n : ℕ) → count_by gives_answer (drill_events n) ≡ 7
-seven_answers n =
+pub updates_answer : (n : ℕ) → count_by gives_answer (drill_events n) ≡ 7
+updates_answer n =
     let written : List Event = project_edit n ∷ [] ++ first_edits n in
     let one = counts_append (project_edit n ∷ []) (first_edits n) in
     let two = counts_append written (update ∷ []) in
@@ -63,10 +63,10 @@ pub has_answered : (n : ℕ) (list : List Event) (before after : Outside) (given
     → IsSessionOf list (record { host = before; out = first }) given (record { host = after; out = last }) → length given ≡ count_by gives_answer list → HasAnswered n before given after
 has_answered n list before after given first last same new session one_each = record {
   session = respelled list (drill_events n) before after given first last same new session;
-  seven = one_each ∙ ap (count_by gives_answer) same ∙ seven_answers n;
+  each_answered = one_each ∙ ap (count_by gives_answer) same ∙ updates_answer n;
 }
 
-pub answered_well : DrillsGoWell → (n : ℕ) (before after : Outside) (given : List Answer) → HasAnswered n before given after → IsDrillOf n before after → GoesWell n before after
+pub answered_well : DrillsGoWell → (n : ℕ) (before after : Outside) (given : List Answer) → HasAnswered n before given after → IsDrillOf n before after → GoesWithoutFaults n before after
 answered_well law n before after given answered drill =
     goes_well law n (length (drill_events n)) before after given (subst (λ l. RunsOver l before given after) (sym (take-length (drill_events n))) answered.session) drill
 
@@ -74,7 +74,7 @@ answered_well law n before after given answered drill =
 
 -- so many events of a session over the drill
 some_went_well : DrillsGoWell → (n count : ℕ) (list : List Event) (before after : MemoryHost) (given : List Answer) (first last : Output) → list ≡ drill_events n → first ≡ new_output
-    → HasRun list count (scene_of before first) given (scene_of after last) → IsDrillOf n (told_outside before) (told_outside after) → GoesWell n (told_outside before) (told_outside after)
+    → HasRun list count (scene_of before first) given (scene_of after last) → IsDrillOf n (told_outside before) (told_outside after) → GoesWithoutFaults n (told_outside before) (told_outside after)
 some_went_well law n count list before after given first last same new ran drill =
     goes_well law n count (told_outside before) (told_outside after) given
     (respelled (take count list) (take count (drill_events n)) (told_outside before) (told_outside after) given first last (ap (take count) same) new
@@ -82,7 +82,7 @@ some_went_well law n count list before after given first last same new ran drill
     drill
 
 pub stopped_well : DrillsGoWell → (n : ℕ) (list : List Event) (before after : MemoryHost) (first last : Output) (fault : SessionFault) → list ≡ drill_events n → first ≡ new_output
-    → StopsBy list (scene_of before first) (scene_of after last) fault → IsDrillOf n (told_outside before) (told_outside after) → GoesWell n (told_outside before) (told_outside after)
+    → StopsBy list (scene_of before first) (scene_of after last) fault → IsDrillOf n (told_outside before) (told_outside after) → GoesWithoutFaults n (told_outside before) (told_outside after)
 stopped_well law n list before after first last (faults.LogEdit index) same new stops drill = some_went_well law n index list before after stops.answers first last same new stops.ran drill
 stopped_well law n list before after first last faults.OutOfMemory same new stops drill = some_went_well law n stops.count list before after stops.answers first last same new stops.ran drill
 

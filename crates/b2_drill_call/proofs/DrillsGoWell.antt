@@ -7,7 +7,7 @@ use Rattle.b2_memory.specs.Memories.{new_memory}
 use Rattle.b2_memory.specs.Sinks.{new_output}
 use Rattle.b2_sessions.specs.Courses.{IsSessionOf}
 use Rattle.b2_top.specs.declared.answer.Answer.{Answer}
-use Rattle.b2_drill_call.specs.Drilled.{begun, RunsOver, GoesWell}
+use Rattle.b2_drill_call.specs.Drilled.{begun, RunsOver, GoesWithoutFaults}
 
 -- A drill of some targets, and of at most 2,000, from a new host to one with which nothing may go wrong.
 pub record IsDrillOf (n : ℕ) (before after : Outside) : Type 0 where
@@ -18,7 +18,7 @@ pub record IsDrillOf (n : ℕ) (before after : Outside) : Type 0 where
   pub may_end_badly : after.risks.may_end_badly ≡ false
 
 -- some first events of a drill
-pub goes_well : DrillsGoWell → (n count : ℕ) (before after : Outside) (given : List Answer) → RunsOver (take count (drill_events n)) before given after → IsDrillOf n before after → GoesWell n before after
+pub goes_well : DrillsGoWell → (n count : ℕ) (before after : Outside) (given : List Answer) → RunsOver (take count (drill_events n)) before given after → IsDrillOf n before after → GoesWithoutFaults n before after
 goes_well law n count before after given session drill = record {
   count = count;
   given = given;
@@ -30,5 +30,5 @@ goes_well law n count before after given session drill = record {
 }
 
 -- nothing was run
-pub goes_nowhere : (n : ℕ) (before after : Outside) → after ≡ before → GoesWell n before after
-goes_nowhere n before after same = subst (GoesWell n before) (sym same) (record { count = 0; given = []; session = (new_output, (begun before, refl, (refl, refl))); ok_or_memory = tt })
+pub goes_nowhere : (n : ℕ) (before after : Outside) → after ≡ before → GoesWithoutFaults n before after
+goes_nowhere n before after same = subst (GoesWithoutFaults n before) (sym same) (record { count = 0; given = []; session = (new_output, (begun before, refl, (refl, refl))); ok_or_memory = tt })

@@ -17,9 +17,9 @@ use Rattle.b2_top.specs.Writing.{Writes, unwritten, Says}
 use Rattle.b2_top.specs.Writing.Says.{said, failed, stopped}
 use Rattle.b2_top.specs.declared.answer.Answer.{Answer}
 use Rattle.b2_top.specs.declared.answer.Answer.TheVariants as answers
-use Rattle.b2_words.specs.Words.{Word}
+use Rattle.b2_command_line.specs.Words.{Word}
 use Rattle.b2_drill_call.specs.Asked.{drill_of}
-use Rattle.b2_drill_call.specs.Drilled.{IsDrilled, HasDrilled, AnswersDrill, GoesWell, summary_line}
+use Rattle.b2_drill_call.specs.Drilled.{IsDrilled, HasDrilled, AnswersDrill, GoesWithoutFaults, summary_line}
 use Rattle.b2_drill_call.proofs.DrillsGoWell.{goes_nowhere}
 
 -- what a line that was said keeps of the sink
@@ -72,7 +72,7 @@ gone_asked P found n some h = subst (λ (f : Option ℕ). IfSome f P) (sym some)
 pub gone_refused : (P : ℕ → Type 0) (found : Option ℕ) → found ≡ None → IfSome found P
 gone_refused P found none = subst (λ (f : Option ℕ). IfSome f P) (sym none) tt
 
-pub gone_nowhere : (found : Option ℕ) (host : Outside) → IfSome found (λ n. GoesWell n host host)
+pub gone_nowhere : (found : Option ℕ) (host : Outside) → IfSome found (λ n. GoesWithoutFaults n host host)
 gone_nowhere None host = tt
 gone_nowhere (Some n) host = goes_nowhere n host host refl
 

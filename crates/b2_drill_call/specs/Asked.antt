@@ -1,9 +1,9 @@
 -- Which drill words ask for.
 use Rattle.std.specs.Prelude.{ℕ, List, Option, Some, None}
-use Rattle.b2_words.specs.Words.{Word, reading}
-use Rattle.b2_words.specs.declared.words.Command.{Command}
-use Rattle.b2_words.specs.declared.words.Command.TheVariants as commands
-use Rattle.b2_words.specs.declared.words.Words.{Words}
+use Rattle.b2_command_line.specs.Words.{Word, reading}
+use Rattle.b2_command_line.specs.declared.words.Command.{Command}
+use Rattle.b2_command_line.specs.declared.words.Command.TheVariants as commands
+use Rattle.b2_command_line.specs.declared.words.Words.{Words}
 
 -- how many targets the drill has, if a command is one
 abbrev pub steps_in : Command → Option ℕ

@@ -16,7 +16,7 @@ use Rattle.b2_sessions.specs.Courses.{IsSessionOf}
 use Rattle.b2_top.specs.declared.answer.Answer.{Answer}
 use Rattle.b2_top.specs.declared.answer.Answer.TheVariants as answers
 use Rattle.b2_top.specs.Statuses.{status_of}
-use Rattle.b2_words.specs.Words.{Word}
+use Rattle.b2_command_line.specs.Words.{Word}
 use Rattle.b2_drill_call.specs.Asked.{drill_of}
 
 -- ---- the session
@@ -32,7 +32,7 @@ RunsOver list before given after = (out : Output) × IsSessionOf list (begun bef
 -- The whole drill of so many targets was a session, with an answer of each of its seven updates.
 pub record HasAnswered (n : ℕ) (before : Outside) (given : List Answer) (after : Outside) : Type 0 where
   pub session : RunsOver (drill_events n) before given after
-  pub seven : length given ≡ 7
+  pub each_answered : length given ≡ 7
 
 -- So it was, and each update answered Ok.
 pub record IsDrilled (n : ℕ) (before after : Outside) : Type 0 where
@@ -45,7 +45,7 @@ abbrev pub is_well : Answer → Bool
 is_well answer = status_of answer == 0
 
 -- Some first events of the drill were a session, in which each update answered Ok or out of memory.
-pub record GoesWell (n : ℕ) (before after : Outside) : Type 0 where
+pub record GoesWithoutFaults (n : ℕ) (before after : Outside) : Type 0 where
   pub count : ℕ
   pub given : List Answer
   pub session : RunsOver (take count (drill_events n)) before given after
@@ -65,7 +65,7 @@ pub record IsSummed (words : List Word) (before after : Moment) : Type 0 where
   pub written : after.out ≡ with_written (summary_line n (count_by is_start after.host.children.events)) before.out
 
 -- The words ask for no drill, and the usage line was written.
-pub record IsRefused (words : List Word) (before after : Moment) : Type 0 where
+pub record IsNoDrill (words : List Word) (before after : Moment) : Type 0 where
   pub no_drill : drill_of words ≡ None
   pub written : after.out ≡ with_written usage_line before.out
 
@@ -74,7 +74,7 @@ abbrev pub AnswersDrill : List Word → Moment → Moment → Answer → Type 0
 AnswersDrill words before after answers.Ok = IsSummed words before after
 AnswersDrill words before after (answers.Failed lists) = ⊥
 AnswersDrill words before after (answers.Refused fault) = ⊥
-AnswersDrill words before after answers.Usage = IsRefused words before after
+AnswersDrill words before after answers.Usage = IsNoDrill words before after
 AnswersDrill words before after answers.HostFault = ⊥
 AnswersDrill words before after answers.OutOfMemory = after.out.faults ≡ before.out.faults
 AnswersDrill words before after answers.SinkFault = SinkFailed before.out after.out

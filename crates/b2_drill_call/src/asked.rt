@@ -3,9 +3,9 @@ ghost use Rattle.std.specs.Prelude.{◌≡◌, ◌<◌, IfOk, IsErrOf, Some, Non
 ghost use Rattle.b2_drill_call.specs.Asked.{steps_in, drill_of};
 
 use b2_base::text::Text;
-use b2_words::fault::WordsFault;
-use b2_words::reader::read_words;
-use b2_words::words::Command;
+use b2_command_line::fault::WordsFault;
+use b2_command_line::reader::read_words;
+use b2_command_line::words::Command;
 use std::alloc::Global;
 
 /// How many targets the drill has, if the command is one.

@@ -7,17 +7,17 @@ ghost use Rattle.b2_memory.specs.Memories.{new_memory};
 ghost use Rattle.b2_update.specs.Moments.{moment};
 ghost use Rattle.b2_top.specs.Endings.{IsUsageOrCutShort};
 ghost use Rattle.b2_drill_call.specs.Asked.{drill_of};
-ghost use Rattle.b2_drill_call.specs.Drilled.{AnswersDrill, GoesWell, HasDrilled};
+ghost use Rattle.b2_drill_call.specs.Drilled.{AnswersDrill, GoesWithoutFaults, HasDrilled};
 
 use crate::asked::drill_of;
 use crate::session::run_well;
 use crate::summary::tell_summary;
 use b2_base::text::Text;
+use b2_command_line::fault::WordsFault;
 use b2_host::sink::Sink;
 use b2_memory::memory::MemoryHost;
 use b2_top::answer::Answer;
 use b2_top::tell::tell_usage;
-use b2_words::fault::WordsFault;
 use std::alloc::Global;
 
 /// Runs the drill of a project with so many targets.
@@ -25,7 +25,7 @@ fn drill<S: Sink>(alloc: Global, n: u32, host: &mut MemoryHost, out: &mut S) -> 
     requires some { 0 < n }
     requires new { memory_of host.old ≡ new_memory }
     ensures ends { HasDrilled n (moment (told_outside host.old) (S.output out.old)) (moment (told_outside host.new) (S.output out.new)) result }
-    ensures gone { n ≤ 2000 → GoesWell n (told_outside host.old) (told_outside host.new) }
+    ensures gone { n ≤ 2000 → GoesWithoutFaults n (told_outside host.old) (told_outside host.new) }
     ensures out_keeps { OutKeeps (S.output out.old) (S.output out.new) }
 {
     match run_well(alloc, n, host) {
@@ -54,7 +54,7 @@ pub fn run_drill<S: Sink>(
     ensures usage { drill_of words.now ≡ None → IsUsageOrCutShort result }
     ensures alone { drill_of words.now ≡ None → told_outside host.new ≡ told_outside host.old }
     // Whatever the answer, what was run is the beginning of the drill, and each update in it answered Ok or out of memory.
-    ensures gone { IfSome (drill_of words.now) (λ n. GoesWell n (told_outside host.old) (told_outside host.new)) }
+    ensures gone { IfSome (drill_of words.now) (λ n. GoesWithoutFaults n (told_outside host.old) (told_outside host.new)) }
     ensures out_keeps { OutKeeps (S.output out.old) (S.output out.new) }
 {
     match drill_of(alloc, words) {

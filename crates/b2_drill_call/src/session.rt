@@ -3,7 +3,7 @@ ghost use Rattle.std.specs.Prelude.{◌≡◌, ◌<◌, ◌≤◌, OnOk, IfOk};
 ghost use Rattle.std.specs.List.{list_all};
 ghost use Rattle.b2_memory.specs.Hosts.{memory_of, told_outside};
 ghost use Rattle.b2_memory.specs.Memories.{new_memory};
-ghost use Rattle.b2_drill_call.specs.Drilled.{is_well, HasAnswered, IsDrilled, GoesWell};
+ghost use Rattle.b2_drill_call.specs.Drilled.{is_well, HasAnswered, IsDrilled, GoesWithoutFaults};
 
 use b2_base::fault::OutOfMemory;
 use b2_drill::drill::drill_events;
@@ -29,7 +29,7 @@ fn run_events(alloc: Global, n: u32, host: &mut MemoryHost) -> Result<Vec<Answer
     requires some { 0 < n }
     requires new { memory_of host.old ≡ new_memory }
     ensures answered { IfOk result (λ given. HasAnswered n (told_outside host.old) given.items (told_outside host.new)) }
-    ensures gone { n ≤ 2000 → GoesWell n (told_outside host.old) (told_outside host.new) }
+    ensures gone { n ≤ 2000 → GoesWithoutFaults n (told_outside host.old) (told_outside host.new) }
 {
     drills_go_well();
     let events = drill_events(alloc, n)?;
@@ -45,7 +45,7 @@ pub(crate) fn run_well(alloc: Global, n: u32, host: &mut MemoryHost) -> Result<(
     requires some { 0 < n }
     requires new { memory_of host.old ≡ new_memory }
     ensures drilled { OnOk result (IsDrilled n (told_outside host.old) (told_outside host.new)) }
-    ensures gone { n ≤ 2000 → GoesWell n (told_outside host.old) (told_outside host.new) }
+    ensures gone { n ≤ 2000 → GoesWithoutFaults n (told_outside host.old) (told_outside host.new) }
 {
     let answers = run_events(alloc, n, host)?;
     if are_well(answers.as_slice()) {

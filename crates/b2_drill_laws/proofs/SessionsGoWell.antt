@@ -13,7 +13,7 @@ use Rattle.b2_drill_laws.specs.Laws.{IsOkOrMemory, IsSafe}
 use Rattle.b2_drill_laws.proofs.DrillsAreCourses.{Stage, unwritten, written, Leads, writes_project, writes_source, edits_source, asks, Course, course_take, drill_course}
 use Rattle.b2_drill_laws.proofs.UpdatesGoWell.{IsCalm, Stands, ok_or_memory, stays_calm, stands_then}
 use Rattle.b2_drill_means.specs.Laws.{DrillMeans, NoPatternIsRefused}
-use Rattle.b2_front.specs.Laws.{OneMeaning}
+use Rattle.b2_prepare.specs.Laws.{OneMeaning}
 use Rattle.b2_host.specs.Disks.{File, Disk, bytes_at}
 use Rattle.b2_host.specs.Outside.{Risks}
 use Rattle.b2_host.specs.declared.children.ChildEvent.TheVariants.{Done}
@@ -24,7 +24,7 @@ use Rattle.b2_runs.specs.LogFiles.{IsTrueOn}
 use Rattle.b2_runs.specs.Moments.{Moment}
 use Rattle.b2_runs.specs.Sessions.{IsEdit, Comes, Happens}
 use Rattle.b2_runs.proofs.TrueThroughSession.{true_through_edit}
-use Rattle.b2_sessions.specs.Calls.{IsCall}
+use Rattle.b2_sessions.specs.BuildCalls.{IsCall}
 use Rattle.b2_sessions.specs.Courses.{IsSessionOf}
 use Rattle.b2_sessions.specs.Events.{happening_of, happenings}
 use Rattle.b2_top.specs.Plans.{making_by}

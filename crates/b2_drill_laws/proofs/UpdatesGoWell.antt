@@ -12,8 +12,8 @@ use Rattle.b2_drill_clean.proofs.EachOutputHasAValue.{held, outside, drill_is_de
 use Rattle.b2_drill_laws.specs.Laws.{IsOkOrMemory}
 use Rattle.b2_drill_means.specs.Laws.{HasJamroot, ComesToDrill, DrillMeans, NoPatternIsRefused}
 use Rattle.b2_endings.specs.declared.failed_lists.FailedLists.{FailedLists}
-use Rattle.b2_front.specs.Laws.{OneMeaning}
-use Rattle.b2_front.specs.Meaning.{Means}
+use Rattle.b2_prepare.specs.Laws.{OneMeaning}
+use Rattle.b2_prepare.specs.Meaning.{Means}
 use Rattle.b2_generate.specs.Planning.{Planned}
 use Rattle.b2_host.specs.ChildProcesses.{BothTold}
 use Rattle.b2_host.specs.Disks.{Folder, Disk, Past, bytes_at}
@@ -33,7 +33,7 @@ use Rattle.b2_runs.specs.Staleness.{Update}
 use Rattle.b2_runs.proofs.DiskStaysSound.{true_log_serves}
 use Rattle.b2_runs.proofs.FileIsOneLog.{file_is_some_log}
 use Rattle.b2_runs.proofs.TrueThroughSession.{true_shown}
-use Rattle.b2_sessions.specs.Calls.{IsCall, HasCome, update_of}
+use Rattle.b2_sessions.specs.BuildCalls.{IsCall, UpdateHasCome, update_of}
 use Rattle.b2_source_laws.specs.NextPlans.{SourcesStay}
 use Rattle.b2_source_laws.proofs.SourcesStay.{host_updates_leave_sources}
 use Rattle.b2_refusals.specs.declared.fault.Fault.{Fault}
@@ -42,12 +42,12 @@ use Rattle.b2_top.specs.Commands.{build_command}
 use Rattle.b2_top.specs.Endings.{IsOrCutShort}
 use Rattle.b2_top.specs.Plans.{HasPlan, update_for, TellsApart, making_by}
 use Rattle.b2_top.specs.RefusalCauses.{IsPatternRefused}
-use Rattle.b2_top.specs.Told.{StaysStill}
+use Rattle.b2_top.specs.BetweenMoments.{StaysStill}
 use Rattle.b2_top.specs.declared.answer.Answer.{Answer}
 use Rattle.b2_top.specs.declared.answer.Answer.TheVariants as answers
 use Rattle.b2_top.specs.declared.build_command.BuildCommand.{BuildCommand}
-use Rattle.b2_words.proofs.OnlyDecimalsAreNumbers.{number_some}
-use Rattle.b2_words.specs.Words.{Word, number, most_jobs, after_lead, items, group_said, meaning}
+use Rattle.b2_command_line.proofs.OnlyDecimalsAreNumbers.{number_some}
+use Rattle.b2_command_line.specs.Words.{Word, number, most_jobs, after_lead, items, group_said, meaning}
 use Rattle.jam_scope.specs.Texts.{first_roots}
 
 -- ---- the words
@@ -238,7 +238,7 @@ module _ (drill_means : DrillMeans) (no_pattern : NoPatternIsRefused) (one_meani
     true_log = subst (λ o. IfSome o (IsTrueOn (making_by made_of))) (sym later.1) true_then;
   }
 
-  module _ (come : HasCome made_of words answer before.host after.host disk) where
+  module _ (come : UpdateHasCome made_of words answer before.host after.host disk) where
     abbrev u : Update
     u = update_of made_of come.plan
 
@@ -277,8 +277,8 @@ module _ (drill_means : DrillMeans) (no_pattern : NoPatternIsRefused) (one_meani
 
   pub stands_then : Stands n n after
   stands_then =
-      go (both_of (λ d l. StaysStill before.host after.host ⊎ HasCome made_of words answer before.host after.host d) before.host.disk after.host.disk disk later.0 came.has_done stands.shows later.1)
+      go (both_of (λ d l. StaysStill before.host after.host ⊎ UpdateHasCome made_of words answer before.host after.host d) before.host.disk after.host.disk disk later.0 came.has_done stands.shows later.1)
     where
-      go : StaysStill before.host after.host ⊎ HasCome made_of words answer before.host after.host disk → Stands n n after
+      go : StaysStill before.host after.host ⊎ UpdateHasCome made_of words answer before.host after.host disk → Stands n n after
       go (inl still) = record { disk = disk; shows = still.disk ∙ stands.shows; file = stands.file; sources = stands.sources }
       go (inr come) = stands_built come

@@ -20,16 +20,16 @@ use Rattle.jam_journal.specs.Scopes.{Value, Frame, look}
 use Rattle.jam_scope.specs.Rules.{Rule, Actions}
 use Rattle.jam_scope.specs.Worlds.{World}
 use Rattle.jam_scope.specs.Lines.{line, line_by, dotted, in_each, places_from, first_at, at_key}
-use Rattle.jam_eval.specs.Args.{args, args_after, lists, call, call_head, call_of}
-use Rattle.jam_eval.specs.Calls.{told, native_call, acted_at, called, applied}
-use Rattle.jam_eval.specs.Eval.{levels, rule_body, run}
-use Rattle.jam_eval.specs.Faults.{Spot}
-use Rattle.jam_eval.specs.Forms.{done, form, stmts}
-use Rattle.jam_eval.specs.Includes.{file_ended}
-use Rattle.jam_eval.specs.Outcomes.{gives, goes_on, then_do, then_go, either, by_turns, expanded, close_frame, in_module}
-use Rattle.jam_eval.specs.Refused.{refused_here}
-use Rattle.jam_eval.specs.Settings.{Meaning, Setting}
-use Rattle.jam_eval.specs.States.{State}
+use Rattle.jam_meaning.specs.Args.{args, args_after, lists, call, call_head, call_of}
+use Rattle.jam_meaning.specs.RuleCalls.{told, native_call, acted_at, called, applied}
+use Rattle.jam_meaning.specs.Eval.{levels, rule_body, run}
+use Rattle.jam_meaning.specs.Faults.{Spot}
+use Rattle.jam_meaning.specs.Forms.{done, form, stmts}
+use Rattle.jam_meaning.specs.Includes.{file_ended}
+use Rattle.jam_meaning.specs.Outcomes.{gives, goes_on, then_do, then_go, either, by_turns, expanded, close_frame, in_module}
+use Rattle.jam_meaning.specs.Refused.{refused_here}
+use Rattle.jam_meaning.specs.Settings.{Meaning, Setting}
+use Rattle.jam_meaning.specs.States.{State}
 use Rattle.jam_natives.specs.Keeping.{Kept}
 use Rattle.jam_natives.specs.Rows.{jam_meaning}
 use Rattle.jam_natives.specs.Rules.{native_of, is_declaring}

@@ -30,11 +30,11 @@ use Rattle.jam_scope.specs.Changes.{set_place}
 use Rattle.jam_scope.specs.Lines.{line_by, dotted, in_each, places_from, first_at, at_key, actions_place}
 use Rattle.jam_scope.specs.Rules.{Rule, Actions}
 use Rattle.jam_scope.specs.Worlds.{World}
-use Rattle.jam_eval.specs.Outcomes.{gives, then_do, close_frame}
-use Rattle.jam_eval.specs.Rolled.{Job, StepAnswer, body_names, text_of, body_text, actions_text, rule_if, back_to, in_copy, job_spot, in_step}
-use Rattle.jam_eval.specs.Rolled as rolled
-use Rattle.jam_eval.specs.Settings.{Setting}
-use Rattle.jam_eval.specs.States.{State, with_world}
+use Rattle.jam_meaning.specs.Outcomes.{gives, then_do, close_frame}
+use Rattle.jam_meaning.specs.Rolled.{Job, StepAnswer, body_names, text_of, body_text, actions_text, rule_if, back_to, in_copy, job_spot, in_step}
+use Rattle.jam_meaning.specs.Rolled as rolled
+use Rattle.jam_meaning.specs.Settings.{Setting}
+use Rattle.jam_meaning.specs.States.{State, with_world}
 use Rattle.jam_natives.specs.Keeping.{Kept}
 
 -- ---- what is within the limit

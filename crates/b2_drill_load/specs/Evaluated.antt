@@ -11,7 +11,7 @@ use Rattle.jam_natives.specs.Keeping.{Kept}
 use Rattle.jam_scope.specs.Rules.{Actions}
 use Rattle.jam_scope.specs.Worlds.{World}
 use Rattle.jam_scope.specs.Changes.{first_world, first_worlds}
-use Rattle.jam_eval.specs.States.{State}
+use Rattle.jam_meaning.specs.States.{State}
 
 -- the module of the project
 abbrev pub owner : Text

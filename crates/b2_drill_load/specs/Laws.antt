@@ -2,12 +2,12 @@
 use Rattle.std.specs.Prelude.{◌≡◌, ℕ, suc, ◌+◌, ◌<◌, ◌≤◌, List, length, codes}
 use Rattle.b2_drill_text.specs.Trees.{drill_tree}
 use Rattle.b2_base.specs.Segments.{here}
-use Rattle.jam_eval.specs.Eval.{run}
-use Rattle.jam_eval.specs.Rolled.{in_copy, step_text}
-use Rattle.jam_eval.specs.States.{with_world}
+use Rattle.jam_meaning.specs.Eval.{run}
+use Rattle.jam_meaning.specs.Rolled.{in_copy, step_text}
+use Rattle.jam_meaning.specs.States.{with_world}
 use Rattle.jam_scope.specs.Changes.{set_place}
-use Rattle.jam_eval.specs.Outcomes.{gives, in_module}
-use Rattle.jam_eval.specs.Settings.{Setting}
+use Rattle.jam_meaning.specs.Outcomes.{gives, in_module}
+use Rattle.jam_meaning.specs.Settings.{Setting}
 use Rattle.jam_natives.specs.Keeping.{Kept}
 use Rattle.jam_natives.specs.Rows.{jam_meaning}
 use Rattle.b2_drill_load.specs.Evaluated.{owner, at_first, at_last}

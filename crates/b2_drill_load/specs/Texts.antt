@@ -2,7 +2,7 @@
 use Rattle.std.specs.Prelude.{ℕ, true, false, [], ◌∷◌, codes}
 use Rattle.b2_drill_clean.specs.Steps.{output, inputs, step_text}
 use Rattle.b2_drill_load.specs.Evaluated.{owner, file_world}
-use Rattle.jam_eval.specs.Rolled.{Job, StepAnswer}
+use Rattle.jam_meaning.specs.Rolled.{Job, StepAnswer}
 use Rattle.jam_scope.specs.Worlds.{Worlds}
 
 -- the world that the load leaves

@@ -13,18 +13,18 @@ use Rattle.b2_drill_text.specs.Laws.{IsFileOf}
 use Rattle.b2_drill_text.specs.Trees.{drill_tree}
 use Rattle.b2_drill_text.proofs.FileIsSmall.{drill_is_small}
 use Rattle.b2_drill_text.proofs.TokensSpellTheTree.{drill_reads}
-use Rattle.b2_front.specs.Meaning.{load_setting, load_turns, project_of, planned}
+use Rattle.b2_prepare.specs.Meaning.{load_setting, load_turns, project_of, planned}
 use Rattle.b2_generate.specs.Planning.{Planned, Plans}
 use Rattle.b2_host.specs.Disks.{Disk}
-use Rattle.b2_loaded.specs.Faults.{answer_of}
-use Rattle.b2_metatargets.specs.declared.place.Target.{Target}
+use Rattle.b2_own_text.specs.Faults.{answer_of}
+use Rattle.b2_declared.specs.declared.place.Target.{Target}
 use Rattle.b2_testing.specs.Adding.{with_tests}
-use Rattle.b2_loaded.specs.Readings.{reads}
-use Rattle.b2_loaded.specs.Seen.{setting_of}
-use Rattle.b2_loaded.specs.Turns.{turns}
-use Rattle.b2_loaded.specs.Worlds.{answers_in}
+use Rattle.b2_own_text.specs.Readings.{reads}
+use Rattle.b2_own_text.specs.DiskViews.{setting_of}
+use Rattle.b2_own_text.specs.Turns.{turns}
+use Rattle.b2_own_text.specs.Worlds.{answers_in}
 use Rattle.b2_project.specs.Loads.{loaded, Loads}
-use Rattle.jam_eval.specs.Settings.{is_file, Setting, IsReading}
+use Rattle.jam_meaning.specs.Settings.{is_file, Setting, IsReading}
 use Rattle.jam_journal.specs.Tables.{Text}
 use Rattle.jam_natives.specs.Keeping.{Kept}
 use Rattle.jam_values.specs.FileReadings.{OneReading}

@@ -8,8 +8,8 @@ use Rattle.std.proofs.lemmas.Bool.{eqb-true}
 use Rattle.std.proofs.lemmas.Slice.Eq.{bytes_eq-Decides}
 use Rattle.b2_alternatives.specs.declared.fault.ChoiceFault.{ChoiceFault}
 use Rattle.b2_alternatives.specs.declared.fault.ChoiceFault.TheVariants as choosing
-use Rattle.b2_conversions.specs.declared.fault.MakingFault.{MakingFault}
-use Rattle.b2_conversions.specs.declared.fault.MakingFault.TheVariants as making
+use Rattle.b2_making.specs.declared.fault.MakingFault.{MakingFault}
+use Rattle.b2_making.specs.declared.fault.MakingFault.TheVariants as making
 use Rattle.b2_drill_load.specs.Texts.{drill_job, drill_answer}
 use Rattle.b2_drill_means.specs.Laws.{HasJamroot, ComesToDrill}
 use Rattle.b2_drill_means.proofs.FilesComeToThePlan.{text_answered, without_tests, IsLoadedSo, loaded_so, lines_few, comes_to_drill}
@@ -17,22 +17,22 @@ use Rattle.b2_drill_plan.specs.Plan.{IsDrill}
 use Rattle.b2_drill_plan.proofs.RequestIsPlanned.{drill_plans}
 use Rattle.b2_drill_project.specs.Loaded.{drill_walk}
 use Rattle.b2_drill_project.specs.Project.{drill_place, drill_project}
-use Rattle.b2_front.specs.Laws.{OneMeaning}
-use Rattle.b2_front.specs.Meaning.{Refusal, load_setting, load_turns, project_with, Refuses, IsRefusedInGeneration, Means}
-use Rattle.b2_front.specs.Preparing.{IfRefusal, call_of}
-use Rattle.b2_front.specs.Refusals.{refusal_of}
-use Rattle.b2_front.specs.declared.refusal.Refusal.TheVariants as refusals
+use Rattle.b2_prepare.specs.Laws.{OneMeaning}
+use Rattle.b2_prepare.specs.Meaning.{Refusal, load_setting, load_turns, project_with, Refuses, IsRefusedInGeneration, Means}
+use Rattle.b2_prepare.specs.Preparing.{IfRefusal, call_of}
+use Rattle.b2_prepare.specs.Refusals.{refusal_of}
+use Rattle.b2_prepare.specs.declared.refusal.PlanRefusal.TheVariants as refusals
 use Rattle.b2_generate.specs.Faults.{Fault as Generating}
 use Rattle.b2_generate.specs.Laws.{OnePlan}
 use Rattle.b2_generate.specs.Planning.{Plans}
 use Rattle.b2_generate.specs.declared.fault.GenFault.{GenFault}
 use Rattle.b2_generate.specs.declared.fault.GenFault.TheVariants as generating
 use Rattle.b2_host.specs.Disks.{Disk}
-use Rattle.b2_loaded.specs.Questions.{EndsWith, is_same_job, is_step, IsRefused}
-use Rattle.b2_loaded.specs.Seen.{setting_of, refusing}
-use Rattle.b2_loaded.specs.Worlds.{answers_in}
-use Rattle.b2_loaded.specs.declared.question.Question.{Question}
-use Rattle.b2_loaded.specs.declared.question.Question.TheVariants.{OfRule, OfStep}
+use Rattle.b2_own_text.specs.Questions.{EndsWith, is_same_job, is_step, IsRefused}
+use Rattle.b2_own_text.specs.DiskViews.{setting_of, refusing}
+use Rattle.b2_own_text.specs.Worlds.{answers_in}
+use Rattle.b2_own_text.specs.declared.question.Question.{Question}
+use Rattle.b2_own_text.specs.declared.question.Question.TheVariants.{OfRule, OfStep}
 use Rattle.b2_project.specs.Laws.{OneEnding}
 use Rattle.b2_project.specs.Loads.{Ending, loaded, fails}
 use Rattle.b2_props.specs.Requests.{request_sets}
@@ -45,12 +45,12 @@ use Rattle.b2_top.specs.declared.answer.Answer.TheVariants as answers
 use Rattle.b2_testing.specs.Adding.{with_tests}
 use Rattle.b2_testing.specs.Readying.{IsEquippedFor}
 use Rattle.jam_scope.specs.Worlds.{Worlds}
-use Rattle.b2_walk.specs.declared.fault.LoadFault.{LoadFault}
-use Rattle.b2_walk.specs.declared.fault.LoadFault.TheVariants as loading
+use Rattle.b2_project_walk.specs.declared.fault.LoadFault.{LoadFault}
+use Rattle.b2_project_walk.specs.declared.fault.LoadFault.TheVariants as loading
 use Rattle.jam_effects.specs.declared.fault.EvalFault.{EvalFault}
 use Rattle.jam_effects.specs.declared.fault.EvalFault.TheVariants as evaluating
-use Rattle.jam_eval.specs.Rolled.{Job}
-use Rattle.jam_eval.specs.StepJobs.{job_of}
+use Rattle.jam_meaning.specs.Rolled.{Job}
+use Rattle.jam_meaning.specs.StepJobs.{job_of}
 use Rattle.jam_journal.specs.Tables.{Text}
 use Rattle.jam_values.specs.FileReadings.{OneReading}
 

@@ -2,7 +2,7 @@
 use Rattle.std.specs.Prelude.{◌≡◌, ℕ, ◌≤◌, [], Option, Some, Ok, codes}
 use Rattle.b2_drill.specs.Drills.{jamroot}
 use Rattle.b2_drill_plan.specs.Plan.{IsDrillPlan}
-use Rattle.b2_front.specs.Meaning.{Means}
+use Rattle.b2_prepare.specs.Meaning.{Means}
 use Rattle.b2_generate.specs.Planning.{Planned}
 use Rattle.b2_host.specs.Disks.{Disk, bytes_at}
 use Rattle.b2_top.specs.RefusalCauses.{IsPatternRefused}

@@ -1,8 +1,8 @@
 //! What the files of a drill come to.
 ghost use Rattle.b2_drill_means.specs.Laws.{DrillMeans, NoPatternIsRefused};
 
-use b2_front::laws::one_meaning;
 use b2_generate::laws::one_plan;
+use b2_prepare::laws::one_meaning;
 use b2_project::laws::one_ending;
 use jam_effects::fault::EvalFault;
 use jam_values::laws::one_reading;

@@ -15,7 +15,7 @@ use Rattle.b2_drill_clean.specs.Steps.{output}
 use Rattle.b2_drill_clean.proofs.StepsByNumber.{below}
 use Rattle.b2_drill_project.specs.Project.{drill_target, drill_targets, drill_project}
 use Rattle.b2_drill_project.proofs.NamesAreGood.{IsNoSlash, not_cut, target_has_no_slash, source_has_no_slash}
-use Rattle.b2_metatargets.specs.declared.place.Target.{Target}
+use Rattle.b2_declared.specs.declared.place.Target.{Target}
 use Rattle.b2_references.specs.Names.{is_same, name_of, first_list, lineage, dir_of, alternatives, default_build}
 use Rattle.b2_references.specs.References.{reference_meaning, target_or_file, source_meaning}
 use Rattle.b2_references.specs.declared.meaning.Meaning.TheVariants.{File, Targets}

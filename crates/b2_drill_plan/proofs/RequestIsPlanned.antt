@@ -10,20 +10,20 @@ use Rattle.b2_drill_plan.proofs.NamesAreFound.{other_name, filter_append, no_def
 use Rattle.b2_drill_plan.proofs.StepsJoinInTurn.{steps_join}
 use Rattle.b2_drill_plan.proofs.TargetsAreGenerated.{drill, drill_given, gives}
 use Rattle.b2_drill_project.specs.Project.{drill_target, drill_targets, drill_project}
-use Rattle.b2_evaluation.specs.Answers.{Answers}
+use Rattle.b2_evaluator.specs.Answers.{Answers}
 use Rattle.b2_generate.specs.Answers.{Row, Generated}
 use Rattle.b2_generate.specs.Generation.{Generates}
-use Rattle.b2_generate.specs.Loaded.{Loaded}
+use Rattle.b2_generate.specs.LoadedProjects.{LoadedProject}
 use Rattle.b2_generate.specs.Planning.{Planned, Answers as Given, all_given, given, planned, Plans}
-use Rattle.b2_metatargets.specs.declared.place.Target.{Target}
+use Rattle.b2_declared.specs.declared.place.Target.{Target}
 use Rattle.b2_plan.specs.declared.step.Step.{Step}
 use Rattle.b2_props.specs.Requests.{product}
 use Rattle.b2_props.specs.Sets.{firsts, set_of}
 use Rattle.b2_references.specs.Names.{Name, is_same, first_names, name_of}
 use Rattle.b2_references.specs.References.{is_explicit, projects_under, listed_targets, project_meaning}
 use Rattle.b2_references.specs.Requests.{by_feature, choosable, open_values, sets_for, named_by, asked_for, asked}
-use Rattle.b2_references.specs.declared.asked.Asked.{Asked}
-use Rattle.b2_references.specs.declared.asked.Asked.TheVariants.{Main}
+use Rattle.b2_references.specs.declared.asked.AskedPiece.{AskedPiece}
+use Rattle.b2_references.specs.declared.asked.AskedPiece.TheVariants.{Main}
 use Rattle.b2_virtual.specs.Joining.{joined}
 use Rattle.b2_virtual.specs.declared.entry.Entry.{Entry}
 
@@ -101,7 +101,7 @@ listed_are lines few =
 
 -- ---- what is asked for
 
-abbrev asks_from : ℕ → ℕ → List Asked
+abbrev asks_from : ℕ → ℕ → List AskedPiece
 asks_from zero first = []
 asks_from (suc count) first = Main (0, target_name first) [] ∷ asks_from count (suc first)
 
@@ -116,7 +116,7 @@ asks_are (suc count) first lines within few =
     ap₂ (λ own more. own ++ more) (one_set first lines (omega (arith, within)) few) (asks_are count (suc first) lines (omega (arith, within)) few)
 
 -- what is asked for by the names of the project
-abbrev asked_with : List ℕ → List Name → List Asked
+abbrev asked_with : List ℕ → List Name → List AskedPiece
 asked_with lines names = (flat_map (asked_for (drill_project lines) []) (names ++ []) ++ []) ++ []
 
 asked_are : (lines : List ℕ) → length lines ≤ 2000 → asked (drill_project lines) ([] ∷ []) [] ≡ asks_from (length lines) 0
@@ -129,7 +129,7 @@ asked_are lines few =
 
 -- ---- what is given
 
-record AreGiven {E : Type 0} (l : Loaded E) (count first n : ℕ) : Type 0 where
+record AreGiven {E : Type 0} (l : LoadedProject E) (count first n : ℕ) : Type 0 where
   made : List Generated
   answers : Given l (asks_from count first) (steps first) (Ok (made, steps n))
   wanted : flat_map (λ (g : Generated). map (λ (e : Entry). e.path) g.supply.entries) made ≡ paths_from count first
@@ -165,8 +165,8 @@ module _ {E : Type 0} (lines : List ℕ) (few : length lines ≤ 2000) (told : A
         },
       )
 
-pub drill_plans : {E : Type 0} (l : Loaded E) (lines : List ℕ) → IsDrill lines l → (plan : Planned) × IsDrillPlan (length lines) plan × Plans l ([] ∷ []) [] (Ok plan)
+pub drill_plans : {E : Type 0} (l : LoadedProject E) (lines : List ℕ) → IsDrill lines l → (plan : Planned) × IsDrillPlan (length lines) plan × Plans l ([] ∷ []) [] (Ok plan)
 drill_plans {E} l lines d =
     let found : (plan : Planned) × IsDrillPlan (length lines) plan × Plans (drill lines d.few l.answers d.answers) ([] ∷ []) [] (Ok plan) = plans lines d.few l.answers d.answers in
     let same : drill lines d.few l.answers d.answers ≡ l = λ k. record { declared = sym d.declared_is k; roots = sym d.roots_are k; answers = l.answers } in
-    (found.0, found.1, subst (λ (x : Loaded E). Plans x ([] ∷ []) [] (Ok found.0)) same found.2)
+    (found.0, found.1, subst (λ (x : LoadedProject E). Plans x ([] ∷ []) [] (Ok found.0)) same found.2)

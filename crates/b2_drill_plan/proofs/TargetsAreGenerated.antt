@@ -10,13 +10,13 @@ use Rattle.b2_alternatives.specs.Choosing.{Returned, Chosen, condition, with_def
 use Rattle.b2_alternatives.specs.Needs as needing
 use Rattle.b2_alternatives.specs.declared.need.Need.{Need}
 use Rattle.b2_alternatives.specs.declared.need.Next.TheVariants.{Complete, Due}
-use Rattle.b2_alternatives.specs.declared.need.Way.TheVariants.{Source}
+use Rattle.b2_alternatives.specs.declared.need.NeedKind.TheVariants.{Source}
 use Rattle.b2_base.specs.Segments.{here, file_name}
-use Rattle.b2_conversions.specs.Acts.{for_each}
-use Rattle.b2_conversions.specs.Contexts.{Site}
-use Rattle.b2_conversions.specs.Conversions.{named_file, makes_file, makes}
-use Rattle.b2_conversions.specs.Steps.{paths_of, job, placed_at, places, texted, asks, runs}
-use Rattle.b2_declarations.specs.declared.declaration.Kind.TheVariants.{Make}
+use Rattle.b2_making.specs.Acts.{for_each}
+use Rattle.b2_making.specs.Contexts.{Site}
+use Rattle.b2_making.specs.Conversions.{named_file, makes_file, makes}
+use Rattle.b2_making.specs.Steps.{paths_of, job, placed_at, places, texted, asks, runs}
+use Rattle.b2_declaring_calls.specs.declared.declaration.Kind.TheVariants.{Make}
 use Rattle.b2_drill.specs.Drills.{source_name, target_name}
 use Rattle.b2_drill_clean.specs.Steps.{output, inputs, drill_step, steps}
 use Rattle.b2_drill_clean.proofs.StepsByNumber.{below, half_less, half_below, steps_count}
@@ -25,14 +25,14 @@ use Rattle.b2_drill_load.specs.Texts.{drill_job, drill_answer}
 use Rattle.b2_drill_plan.proofs.NamesAreFound.{line_of, own_name, other_name, alternatives_are, no_defaults, tail_is, path_is, file_meaning, target_meaning}
 use Rattle.b2_drill_plan.proofs.StepsJoinInTurn.{output_parts, stands, steps_join}
 use Rattle.b2_drill_project.specs.Project.{drill_target, drill_project}
-use Rattle.b2_evaluation.specs.Answers.{Answers}
+use Rattle.b2_evaluator.specs.Answers.{Answers}
 use Rattle.b2_generate.specs.Answers.{Row, Generated}
 use Rattle.b2_generate.specs.Generation.{site, rows, Finishes, Generates, finished, complete_now, goes_on}
-use Rattle.b2_generate.specs.Loaded.{Loaded, returned, context}
-use Rattle.b2_generate.specs.Standing.{Standing, next}
+use Rattle.b2_generate.specs.LoadedProjects.{LoadedProject, returned, context}
+use Rattle.b2_generate.specs.OpenTargets.{Standing, next}
 use Rattle.b2_generate.specs.Supplies.{is_source, is_part, is_order, parts_of, supplied, supply_list}
 use Rattle.b2_generators.specs.Table.{type_with, last_suffix, type_of}
-use Rattle.b2_metatargets.specs.declared.place.Target.{Target}
+use Rattle.b2_declared.specs.declared.place.Target.{Target}
 use Rattle.b2_plan.specs.Sources.{IsInRoots}
 use Rattle.b2_plan.specs.declared.step.Step.{Step}
 use Rattle.b2_props.specs.Refinement.{expanded, refined}
@@ -147,7 +147,7 @@ no_headers i k =
     ap (λ b. map (λ (e : Entry). (codes "include", directory_of e.path)) (cond b (drill_entry k ∷ []) [])) (ap (bytes_eq (codes "H")) (plain_type (last_suffix (file_name (named_tail here (target_name k))))))
 
 module _ {E : Type 0} (lines : List ℕ) (few : length lines ≤ 2000) (told : Answers E) (tells : (i line : ℕ) → i < length lines → told.step_text (drill_job i line) ≡ Ok (drill_answer i)) where
-  abbrev pub drill : Loaded E
+  abbrev pub drill : LoadedProject E
   drill = record { declared = drill_project lines; roots = first_roots; answers = told }
 
   module _ (i : ℕ) (less : i < length lines) (sources : List Supply) (before : List Step) where

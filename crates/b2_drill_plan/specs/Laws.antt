@@ -2,7 +2,7 @@
 use Rattle.std.specs.Prelude.{◌≡◌, ℕ, suc, ◌<◌, ◌≤◌, List, [], ◌∷◌, length, Ok}
 use Rattle.b2_drill_clean.specs.Steps.{drill_step, steps}
 use Rattle.b2_drill_plan.specs.Plan.{IsDrillPlan, IsDrill}
-use Rattle.b2_generate.specs.Loaded.{Loaded}
+use Rattle.b2_generate.specs.LoadedProjects.{LoadedProject}
 use Rattle.b2_generate.specs.Planning.{Planned, Plans}
 use Rattle.b2_virtual.specs.Joining.{joined}
 use Rattle.b2_virtual.specs.Clashes.{Fits}
@@ -14,4 +14,4 @@ pub record StepsJoin : Type 0 where
 
 -- the request of one empty set and no word
 abbrev pub DrillPlans : Type 0 → Type 0
-DrillPlans E = (l : Loaded E) (lines : List ℕ) → IsDrill lines l → (planned : Planned) × IsDrillPlan (length lines) planned × Plans l ([] ∷ []) [] (Ok planned)
+DrillPlans E = (l : LoadedProject E) (lines : List ℕ) → IsDrill lines l → (planned : Planned) × IsDrillPlan (length lines) planned × Plans l ([] ∷ []) [] (Ok planned)

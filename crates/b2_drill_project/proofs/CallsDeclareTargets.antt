@@ -2,20 +2,20 @@
 use Rattle.std.proofs.Common.{◌≡◌, ℕ, ◌<◌, ◌≤◌, List, [], ◌∷◌, ◌++◌, length, codes, Some, Result, Ok, Err, refl, ap, ◌∙◌, arith}
 use Rattle.std.specs.List.{AllByRecursion}
 use Rattle.b2_base.specs.Results.{and_then}
-use Rattle.b2_declarations.specs.Declarations.{shape_of}
-use Rattle.b2_declarations.specs.Rules.{rule_of}
-use Rattle.b2_declarations.specs.declared.declaration.Declaration.TheVariants.{Main}
+use Rattle.b2_declaring_calls.specs.Declarations.{shape_of}
+use Rattle.b2_declaring_calls.specs.Rules.{rule_of}
+use Rattle.b2_declaring_calls.specs.declared.declaration.Declaration.TheVariants.{Main}
 use Rattle.b2_drill_load.specs.Evaluated.{make_lists}
 use Rattle.b2_drill_project.specs.Project.{main_target, drill_call, drill_calls, drill_visit, drill_place, drill_target, drill_targets, drill_project}
 use Rattle.b2_drill_project.proofs.NamesAreGood.{target_is_good}
-use Rattle.b2_metatargets.specs.Calls.{unless}
-use Rattle.b2_metatargets.specs.Carrying.{Tables, with_accepted, no_tables, carrying, tables_of}
-use Rattle.b2_metatargets.specs.Declaring.{whole, declared}
-use Rattle.b2_metatargets.specs.Gathering.{Gathered, with_texts, with_list, lists_in, numbered, rules_in, one_target_more, with_target, gathering, gathered_by}
-use Rattle.b2_metatargets.specs.Outcomes.{all_steps}
-use Rattle.b2_metatargets.specs.declared.fault.DeclaringFault.{DeclaringFault}
-use Rattle.b2_metatargets.specs.declared.place.Target.{Target}
-use Rattle.b2_metatargets.specs.declared.visit.Call.{Call}
+use Rattle.b2_declared.specs.DeclaringCalls.{unless}
+use Rattle.b2_declared.specs.Carrying.{Tables, with_accepted, no_tables, carrying, tables_of}
+use Rattle.b2_declared.specs.Declaring.{whole, declared}
+use Rattle.b2_declared.specs.Gathering.{Gathered, with_texts, with_list, lists_in, numbered, rules_in, one_target_more, with_target, gathering, gathered_by}
+use Rattle.b2_declared.specs.Outcomes.{all_steps}
+use Rattle.b2_declared.specs.declared.fault.DeclaringFault.{DeclaringFault}
+use Rattle.b2_declared.specs.declared.place.Target.{Target}
+use Rattle.b2_declared.specs.declared.visit.Call.{Call}
 
 -- ---- steps one after another
 

@@ -6,9 +6,9 @@ use Rattle.std.specs.Str.{bytes_eq}
 use Rattle.std.proofs.lemmas.List.Elements.{All-from_recursion}
 use Rattle.std.proofs.lemmas.List.Splits.{slice_split_none}
 use Rattle.b2_base.specs.Segments.{segments, normal_of, kept, written, is_up}
-use Rattle.b2_declarations.specs.Targets.{is_refused_name}
+use Rattle.b2_declaring_calls.specs.Targets.{is_refused_name}
 use Rattle.b2_drill_text.proofs.NamesNeedNoQuotes.{IsDigit, all_digits}
-use Rattle.b2_texts.specs.Cuts.{cut_at}
+use Rattle.b2_property_texts.specs.Cuts.{cut_at}
 
 -- a byte that is no slash
 pub record IsNoSlash (byte : ℕ) : Type 0 where

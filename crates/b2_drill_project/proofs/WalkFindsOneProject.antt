@@ -3,7 +3,7 @@ use Rattle.std.proofs.Common.{◌≡◌, ℕ, zero, suc, ◌+◌, ◌<◌, ◌�
 use Rattle.std.specs.List.{AllByRecursion, flat_map}
 use Rattle.std.specs.Option.{option_and_then}
 use Rattle.b2_base.specs.Segments.{here}
-use Rattle.b2_declarations.specs.Directories.{directory_before, directory_of, directories}
+use Rattle.b2_declaring_calls.specs.Directories.{directory_before, directory_of, directories}
 use Rattle.b2_drill.specs.Drills.{source_name, target_name}
 use Rattle.b2_drill_load.specs.Evaluated.{decl, decls}
 use Rattle.b2_drill_load.proofs.FileRuns.{drill_runs}
@@ -12,13 +12,13 @@ use Rattle.b2_drill_project.specs.Project.{drill_call, drill_calls, drill_visit,
 use Rattle.b2_drill_project.specs.Loaded.{drill_walk}
 use Rattle.b2_drill_project.proofs.NamesAreGood.{IsNoSlash, not_cut, target_has_no_slash, source_has_no_slash}
 use Rattle.b2_drill_project.proofs.CallsDeclareTargets.{each_call, declares, drill_declares}
-use Rattle.b2_metatargets.specs.declared.visit.Call.{Call}
+use Rattle.b2_declared.specs.declared.visit.Call.{Call}
 use Rattle.b2_project.specs.Loads.{loaded, with_declared, toolset_of, ends_or_goes_on, up_to_toolset, IsEquipped, Loads}
-use Rattle.b2_walk.specs.Calls.{call_of, names_of}
-use Rattle.b2_walk.specs.Directories.{first_file, seen}
-use Rattle.b2_walk.specs.Directories.{or_next}
-use Rattle.b2_walk.specs.Walks.{Walk, goes_on, no_walk, and_then, after_run, unless_visited, no_jamroot, visited, visit_found, load_root, ComesTo, is_whole}
-use Rattle.jam_eval.specs.Settings.{is_file, Setting}
+use Rattle.b2_project_walk.specs.RecordedCalls.{call_of, names_of}
+use Rattle.b2_project_walk.specs.Directories.{first_file, seen}
+use Rattle.b2_project_walk.specs.Directories.{or_next}
+use Rattle.b2_project_walk.specs.Walks.{Walk, goes_on, no_walk, and_then, after_run, unless_visited, no_jamroot, visited, visit_found, load_root, ComesTo, is_whole}
+use Rattle.jam_meaning.specs.Settings.{is_file, Setting}
 use Rattle.jam_natives.specs.Keeping.{Kept}
 use Rattle.jam_natives.specs.Rows.{jam_meaning}
 use Rattle.jam_scope.specs.Changes.{first_world}

@@ -3,9 +3,9 @@ use Rattle.std.specs.Prelude.{◌≡◌, ℕ, suc, ◌+◌, ◌≤◌, List, [],
 use Rattle.b2_drill_text.specs.Trees.{drill_tree}
 use Rattle.b2_drill_project.specs.Project.{drill_visit, drill_calls, drill_project}
 use Rattle.b2_drill_project.specs.Loaded.{drill_walk}
-use Rattle.b2_metatargets.specs.Declaring.{declared}
+use Rattle.b2_declared.specs.Declaring.{declared}
 use Rattle.b2_project.specs.Loads.{loaded, Loads}
-use Rattle.jam_eval.specs.Settings.{is_file, Setting}
+use Rattle.jam_meaning.specs.Settings.{is_file, Setting}
 use Rattle.jam_natives.specs.Keeping.{Kept}
 use Rattle.jam_natives.specs.Rows.{jam_meaning}
 

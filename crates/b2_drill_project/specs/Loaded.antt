@@ -2,8 +2,8 @@
 use Rattle.std.specs.Prelude.{ℕ, List, [], ◌∷◌}
 use Rattle.b2_drill_load.specs.Evaluated.{at_last}
 use Rattle.b2_drill_project.specs.Project.{drill_visit, drill_calls}
-use Rattle.b2_walk.specs.Walks.{Walk}
-use Rattle.jam_eval.specs.States.{with_world}
+use Rattle.b2_project_walk.specs.Walks.{Walk}
+use Rattle.jam_meaning.specs.States.{with_world}
 use Rattle.jam_scope.specs.Changes.{freeze_roots}
 
 -- the whole walk, after which so many turns are left

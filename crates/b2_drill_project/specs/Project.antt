@@ -1,19 +1,19 @@
 -- The project of a drill.
 use Rattle.std.specs.Prelude.{ℕ, false, List, [], ◌∷◌, ◌++◌, length, codes, None, Some}
 use Rattle.b2_base.specs.Segments.{here}
-use Rattle.b2_declarations.specs.Lists.{listed}
-use Rattle.b2_declarations.specs.declared.declaration.Declaration.TheVariants.{Main}
-use Rattle.b2_declarations.specs.declared.declaration.Kind.TheVariants.{Make}
-use Rattle.b2_declarations.specs.declared.declaration.ListName.TheVariants.{Requirements, Usage}
-use Rattle.b2_declarations.specs.declared.declaration.MainTarget.{MainTarget}
+use Rattle.b2_declaring_calls.specs.Lists.{listed}
+use Rattle.b2_declaring_calls.specs.declared.declaration.Declaration.TheVariants.{Main}
+use Rattle.b2_declaring_calls.specs.declared.declaration.Kind.TheVariants.{Make}
+use Rattle.b2_declaring_calls.specs.declared.declaration.ListName.TheVariants.{Requirements, Usage}
+use Rattle.b2_declaring_calls.specs.declared.declaration.MainTarget.{MainTarget}
 use Rattle.b2_drill.specs.Drills.{target_name}
 use Rattle.b2_drill_load.specs.Evaluated.{owner}
 use Rattle.b2_drill_text.specs.Trees.{source_list}
-use Rattle.b2_metatargets.specs.declared.place.Place.{Place}
-use Rattle.b2_metatargets.specs.declared.place.Target.{Target}
-use Rattle.b2_metatargets.specs.declared.visit.Call.{Call}
-use Rattle.b2_metatargets.specs.declared.visit.Visit.{Visit}
-use Rattle.b2_metatargets.specs.declared.whole.Declared.{Declared}
+use Rattle.b2_declared.specs.declared.place.Place.{Place}
+use Rattle.b2_declared.specs.declared.place.Target.{Target}
+use Rattle.b2_declared.specs.declared.visit.Call.{Call}
+use Rattle.b2_declared.specs.declared.visit.Visit.{Visit}
+use Rattle.b2_declared.specs.declared.whole.Declared.{Declared}
 
 -- what a call of `make` declares
 abbrev pub main_target : ℕ → MainTarget

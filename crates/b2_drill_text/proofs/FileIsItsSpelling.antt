@@ -9,7 +9,7 @@ use Rattle.b2_drill.specs.Drills.{source_name, target_name, make_line, make_line
 use Rattle.jam_lexer.specs.Tokens.{IsText, is_body}
 use Rattle.jam_spelling.specs.declared.lexeme.Lexeme.{Lexeme}
 use Rattle.jam_spelling.specs.Spelling.{needs_quotes, spelling, ends_line, begins_body, separator, bytes_of}
-use Rattle.jam_spelling.specs.Standing.{word, key, body, count, IsRaw, CanStand, nothing, a_word, a_key, an_action}
+use Rattle.jam_spelling.specs.LexemeLists.{word, key, body, count, IsRaw, CanStand, nothing, a_word, a_key, an_action}
 use Rattle.jam_spelling.specs.Readings.{AreTexts}
 use Rattle.jam_spelling.proofs.SpelledLexemesAreText.{one_text}
 use Rattle.b2_drill_text.proofs.NamesNeedNoQuotes.{some_bytes, source_needs_none, target_needs_none, named_text}

@@ -8,7 +8,7 @@ use Rattle.std.proofs.lemmas.Str.{IsUtf8-append, IsUtf8-from_ascii}
 use Rattle.jam_lexer.specs.Tokens.{IsText}
 use Rattle.jam_spelling.proofs.SpelledLexemesAreText.{one_text}
 use Rattle.jam_grammar.specs.Marks.{mark_of_word}
-use Rattle.jam_grammar.specs.declared.mark.Mark.TheVariants as m
+use Rattle.jam_grammar.specs.declared.mark.TokenMark.TheVariants as m
 use Rattle.jam_spelling.specs.Spelling.{needs_quotes, is_special}
 
 -- the byte of a digit

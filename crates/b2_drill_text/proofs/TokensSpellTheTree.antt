@@ -2,8 +2,8 @@
 use Rattle.std.proofs.Common.{◌≡◌, ℕ, zero, suc, ◌<◌, ◌^◌, ◌/◌, List, [], ◌∷◌, ◌++◌, false, length, map, codes, Some, refl, sym, ap, subst, ◌∙◌, arith}
 use Rattle.b2_base.specs.declared.token.Token.{Token}
 use Rattle.b2_drill.specs.Drills.{source_name, target_name, jamroot}
-use Rattle.jam_grammar.specs.declared.mark.Mark.{Mark}
-use Rattle.jam_grammar.specs.declared.mark.Mark.TheVariants as m
+use Rattle.jam_grammar.specs.declared.mark.TokenMark.{TokenMark}
+use Rattle.jam_grammar.specs.declared.mark.TokenMark.TheVariants as m
 use Rattle.jam_grammar.specs.Marks.{mark_of_token, mark_of_word, mark_of_key, mark_by_kind, is_word}
 use Rattle.jam_grammar.specs.Grammar.{Part, Stmts, OneWord, Heading, BodyBlock, Tail, Args, More}
 use Rattle.jam_grammar.specs.Grammar as part
@@ -12,7 +12,7 @@ use Rattle.jam_grammar.specs.Spelling.{Sym, Says, From, Is, Spells, none, spell_
 use Rattle.jam_grammar.specs.Trees.{FormTree, StmtTrees, NoStmts, StmtAnd}
 use Rattle.jam_grammar.proofs.MachineStopsAtFirstFault.{whole_is_file}
 use Rattle.jam_spelling.specs.declared.lexeme.Lexeme.{Lexeme}
-use Rattle.jam_spelling.specs.Standing.{word, key, body}
+use Rattle.jam_spelling.specs.LexemeLists.{word, key, body}
 use Rattle.jam_spelling.specs.Readings.{lexeme_of, ReadsAs}
 use Rattle.jam_spelling.proofs.SpelledReadsBack.{all_said}
 use Rattle.b2_drill_text.specs.Trees.{make_form, join_form, make_stmts}
@@ -42,7 +42,7 @@ unfolding mark_of_token
 marked token lexeme h = ap (λ (l : Lexeme). mark_by_kind l.kind l.text) h
 
 -- a token of this mark is read, and these parts are left
-one : (token : Token) (tokens : List Token) (parts left : List Part) (mark : Mark) → mark_of_token token ≡ mark → feed parts mark ≡ Some left → run (token ∷ tokens) parts ≡ run tokens left
+one : (token : Token) (tokens : List Token) (parts left : List Part) (mark : TokenMark) → mark_of_token token ≡ mark → feed parts mark ≡ Some left → run (token ∷ tokens) parts ≡ run tokens left
 one token tokens parts left mark is fed =
     ap (λ found. go_on (feed parts found) (run tokens) (token ∷ tokens)) is ∙ ap (λ found. go_on found (run tokens) (token ∷ tokens)) fed
 
@@ -61,7 +61,7 @@ plain_join : mark_of_word (codes "join") ≡ m.Plain
 unfolding mark_of_word
 plain_join = refl
 
-key_of : (text : List ℕ) (mark : Mark) (token : Token) → mark_of_key text ≡ mark → lexeme_of token ≡ key text → mark_of_token token ≡ mark
+key_of : (text : List ℕ) (mark : TokenMark) (token : Token) → mark_of_key text ≡ mark → lexeme_of token ≡ key text → mark_of_token token ≡ mark
 key_of text mark token is h = marked token (key text) h ∙ is
 
 word_of : (text : List ℕ) (token : Token) → mark_of_word text ≡ m.Plain → lexeme_of token ≡ word text → mark_of_token token ≡ m.Plain

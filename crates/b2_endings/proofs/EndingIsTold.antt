@@ -26,7 +26,7 @@ use Rattle.b2_runs.proofs.NeededByNumbers.{closed_by_numbers}
 use Rattle.b2_sched.specs.Schedules.{Schedule, IsSettled, IsFailed, IsSkipped, IsRunning, IsStale, CanLook, QuitsNow, NoneStuck}
 use Rattle.b2_sched.specs.Ends as by_schedule
 use Rattle.b2_sched.proofs.SetsAgreeWithTheRun.{needed_joins, left_joins, skipped_joins, none_stuck_joins, quits_stuck_none, cycle_joins}
-use Rattle.b2_facts.specs.declared.stop.Stop.{Stop}
+use Rattle.b2_facts.specs.declared.stop.FilesStop.{FilesStop}
 use Rattle.b2_facts.specs.declared.file_facts.FileFacts.{FileFacts}
 use Rattle.b2_facts.specs.Facts.{Knowledge, IsFile, IsAbout, path_at}
 use Rattle.b2_facts.specs.Growth.{Learns, OfNone}
@@ -202,7 +202,7 @@ module _ (plan : Plan) (l : Looks) (quit : Bool) (u : Update) (events : List Chi
 -- ---- at the exits
 
 -- what is told of two disks
-abbrev IsToldEnd : Plan → Looks → Bool → Sights → Result Ending Stop → Disk → Disk → Type 0
+abbrev IsToldEnd : Plan → Looks → Bool → Sights → Result Ending FilesStop → Disk → Disk → Type 0
 IsToldEnd plan l quit s result before after = (u : Update) (events : List ChildEvent) (first : List LogLine) (reads : List Read) → IsUpdateBy plan l u → u.quit ≡ quit → IsRun u events
     → IsUnderWay u events first reads before s → AreTrueLooks u events before s l → IsToldAtRest u events before s l → IfOk result (EndingIsTrue u events)
 

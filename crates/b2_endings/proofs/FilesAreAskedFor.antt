@@ -4,8 +4,8 @@ use Rattle.std.specs.Option.{IfSome}
 use Rattle.b2_host.specs.Disks.{Disk}
 use Rattle.b2_host.specs.Outside.{Outside}
 use Rattle.b2_plan.specs.declared.step.Step.{Step}
-use Rattle.b2_facts.specs.declared.stop.Stop.{Stop}
-use Rattle.b2_facts.specs.declared.stop.Stop.TheVariants as stops
+use Rattle.b2_facts.specs.declared.stop.FilesStop.{FilesStop}
+use Rattle.b2_facts.specs.declared.stop.FilesStop.TheVariants as stops
 use Rattle.b2_facts.specs.Facts.{Knowledge}
 use Rattle.b2_facts.specs.Growth.{Learns, OfNone}
 use Rattle.b2_facts.specs.Truth.{StaysTrue}
@@ -14,7 +14,7 @@ use Rattle.b2_endings.specs.Endings.{StopLooks}
 use Rattle.b2_endings.specs.Missing.{AsksFiles}
 
 -- a stop is one of any result
-looks_err : (T S : Type 0) (x y : Outside) (stop : Stop) → StopLooks {T = T} x y (Err stop) → StopLooks {T = S} x y (Err stop)
+looks_err : (T S : Type 0) (x y : Outside) (stop : FilesStop) → StopLooks {T = T} x y (Err stop) → StopLooks {T = S} x y (Err stop)
 looks_err T S x y stops.Host looks = looks
 looks_err T S x y stops.OutOfMemory looks = looks
 looks_err T S x y (stops.TooBig number size) looks = looks
@@ -35,7 +35,7 @@ module _ (steps : List Step) (roots : List (List ℕ)) where
   asks_quiet f g x learns told = record { host = refl; learns = learns; told = told_all x.disk _ told }
 
   -- one call, and then another
-  pub asks_then : {T : Type 0} (f g h : Knowledge) (x y z : Outside) (r : Result T Stop) → AsksFiles {T = Unit {0}} steps roots f x g y (Ok tt)
+  pub asks_then : {T : Type 0} (f g h : Knowledge) (x y z : Outside) (r : Result T FilesStop) → AsksFiles {T = Unit {0}} steps roots f x g y (Ok tt)
       → AsksFiles steps roots g y h z r → AsksFiles steps roots f x h z r
   asks_then f g h x y z r one two = record {
     host = subst (λ o. StopLooks o z r) one.host two.host;
@@ -44,12 +44,12 @@ module _ (steps : List Step) (roots : List (List ℕ)) where
   }
 
   -- what a call stopped with
-  pub asks_err : {S : Type 0} (T : Type 0) (f g : Knowledge) (x y : Outside) (r : Result S Stop) (stop : Stop) → r ≡ Err stop
+  pub asks_err : {S : Type 0} (T : Type 0) (f g : Knowledge) (x y : Outside) (r : Result S FilesStop) (stop : FilesStop) → r ≡ Err stop
       → AsksFiles {T = T} steps roots f x g y (Err stop) → AsksFiles steps roots f x g y r
   asks_err {S} T f g x y r stop e asks = subst (λ z. AsksFiles steps roots f x g y z) (sym e) (record { host = looks_err T S x y stop asks.host; learns = asks.learns; told = asks.told })
 
   -- no memory was left
-  pub asks_no_memory : {S : Type 0} (f g : Knowledge) (x y : Outside) (r : Result S Stop) (stop : Stop) → r ≡ Err stop → stop ≡ stops.OutOfMemory
+  pub asks_no_memory : {S : Type 0} (f g : Knowledge) (x y : Outside) (r : Result S FilesStop) (stop : FilesStop) → r ≡ Err stop → stop ≡ stops.OutOfMemory
       → AsksFiles {T = Unit {0}} steps roots f x g y (Ok tt) → AsksFiles steps roots f x g y r
   asks_no_memory {S} f g x y r stop e q asks = subst (λ z. AsksFiles {T = S} steps roots f x g y z) (sym (e ∙ ap Err q)) (record { host = asks.host; learns = asks.learns; told = asks.told })
 

@@ -16,8 +16,8 @@ use Rattle.b2_runs.specs.UpdateAnswers.{UpdateAnswer}
 use Rattle.b2_runs.specs.UpdateAnswers.UpdateAnswer.{all_went, failed as some_failed, step_cycle}
 use Rattle.b2_sched.specs.Schedules.{Schedule, IsFailed, IsSkipped, QuitsNow}
 use Rattle.b2_sched.specs.Ends as by_schedule
-use Rattle.b2_facts.specs.declared.stop.Stop.{Stop}
-use Rattle.b2_facts.specs.declared.stop.Stop.TheVariants as stops
+use Rattle.b2_facts.specs.declared.stop.FilesStop.{FilesStop}
+use Rattle.b2_facts.specs.declared.stop.FilesStop.TheVariants as stops
 use Rattle.b2_reach.specs.declared.sights.Sights.{Sights}
 use Rattle.b2_looks.specs.declared.looks.Looks.{Looks}
 use Rattle.b2_looks.specs.UnderWay.{IsUnderWay, AreTrueLooks, IsUpdateBy}
@@ -46,7 +46,7 @@ answer_of_ending (endings.Ended lists) = finished_by lists.failed lists.skipped 
 -- ---- over every host
 
 -- a look at the host: nothing changes, or it stops where the host failed or no memory was left
-abbrev pub StopLooks : {T : Type 0} → Outside → Outside → Result T Stop → Type 0
+abbrev pub StopLooks : {T : Type 0} → Outside → Outside → Result T FilesStop → Type 0
 StopLooks before after (Ok x) = after ≡ before
 StopLooks before after (Err stops.Host) = Fails before after
 StopLooks before after (Err stops.OutOfMemory) = after ≡ before
@@ -67,7 +67,7 @@ EndingIsTrue u events (endings.Ended lists) = NoneStuck u events × AreLists u e
     × ((path : List ℕ) → Contains u.build.wanted path → (Contains lists.missing path → ⊥) → IsGiven u.build path)
 
 -- what is told at the end of a run
-abbrev pub EndingTold : Plan → Looks → Bool → Outside → Sights → Outside → Result Ending Stop → Type 0
+abbrev pub EndingTold : Plan → Looks → Bool → Outside → Sights → Outside → Result Ending FilesStop → Type 0
 EndingTold plan l quit old s new result = BothTold (λ before after. (u : Update) (events : List ChildEvent)
     (first : List LogLine) (reads : List Read) → IsUpdateBy plan l u → u.quit ≡ quit → IsRun u events
     → IsUnderWay u events first reads before s → AreTrueLooks u events before s l → IsToldAtRest u events before s l

@@ -8,7 +8,7 @@ use Rattle.b2_plan.specs.declared.step.Step.{Step}
 use Rattle.b2_plan.specs.declared.plan.Plan.{Plan}
 use Rattle.b2_runs.specs.Outcomes.{IsListOf}
 use Rattle.b2_sched.specs.Schedules.{Schedule, IsFailed, IsSkipped, QuitsNow, GoesOn, NoneStuck}
-use Rattle.b2_facts.specs.declared.stop.Stop.{Stop}
+use Rattle.b2_facts.specs.declared.stop.FilesStop.{FilesStop}
 use Rattle.b2_facts.specs.declared.file_facts.FileFacts.{FileFacts}
 use Rattle.b2_facts.specs.Facts.{Knowledge, IsFile, path_at}
 use Rattle.b2_facts.specs.Growth.{Learns, OfNone}
@@ -23,7 +23,7 @@ use Rattle.b2_endings.specs.Endings.{StopLooks}
 -- Files were asked for: nothing changes on the host but the count of faults, where it fails. Nothing is learned of
 -- outputs, and what is known stays true.
 pub record AsksFiles {T : Type 0} (steps : List Step) (roots : List (List ℕ)) (f : Knowledge) (x : Outside)
-    (g : Knowledge) (y : Outside) (result : Result T Stop) : Type 0 where
+    (g : Knowledge) (y : Outside) (result : Result T FilesStop) : Type 0 where
   pub host : StopLooks x y result
   pub learns : Learns steps roots OfNone f g
   pub told : IfSome x.disk (λ disk. StaysTrue steps roots disk.now f g)

@@ -12,7 +12,7 @@ use crate::failed_lists::FailedLists;
 use crate::missing::missing_files;
 use crate::number_list::NumberList;
 use b2_base::fault::OutOfMemory;
-use b2_facts::stop::Stop;
+use b2_facts::stop::FilesStop;
 use b2_host::files::Files;
 use b2_looks::looks::Looks;
 use b2_plan::plan::Plan;
@@ -59,7 +59,7 @@ fn name_lists<F: Files>(
     looks: &Looks,
     sights: &mut Sights,
     files: &mut F,
-) -> Result<FailedLists, Stop>
+) -> Result<FailedLists, FilesStop>
     requires about { IsAbout plan.now.steps plan.now.roots sights.old.facts }
     requires looks { AreLooks plan.now 0 sights.old.facts looks.now }
     requires none_looks { (i : ℕ) → CanLook looks.now.board.sched i → ⊥ }
@@ -90,7 +90,7 @@ pub fn ending_of<F: Files>(
     looks: &Looks,
     sights: &mut Sights,
     files: &mut F,
-) -> Result<Ending, Stop>
+) -> Result<Ending, FilesStop>
     requires apart { Apart plan.now.steps plan.now.roots }
     requires about { IsAbout plan.now.steps plan.now.roots sights.old.facts }
     requires looks { AreLooks plan.now 0 sights.old.facts looks.now }

@@ -12,7 +12,7 @@ use b2_base::path::Path;
 use b2_base::path_list::PathList;
 use b2_board::work::Work;
 use b2_facts::facts::Facts;
-use b2_facts::stop::Stop;
+use b2_facts::stop::FilesStop;
 use b2_host::files::Files;
 use b2_plan::plan::Plan;
 use std::alloc::Global;
@@ -23,7 +23,7 @@ fn add_missing<F: Files>(
     files: &mut F,
     number: u32,
     missing: &mut PathList,
-) -> Result<(), Stop>
+) -> Result<(), FilesStop>
     requires number { IsNumber facts.old number }
     ensures asks { (steps : List Step) (roots : List (List ℕ))
         → AsksFiles steps roots facts.old (F.outside files.old) facts.new (F.outside files.new) result }
@@ -42,7 +42,7 @@ fn add_members<F: Files>(
     files: &mut F,
     members: &[u32],
     missing: &mut PathList,
-) -> Result<(), Stop>
+) -> Result<(), FilesStop>
     requires numbered { (n : ℕ) → Contains members.now n → IsNumber facts.old n }
     ensures asks { (steps : List Step) (roots : List (List ℕ))
         → AsksFiles steps roots facts.old (F.outside files.old) facts.new (F.outside files.new) result }
@@ -77,7 +77,7 @@ fn add_lacking<F: Files>(
     works: &[Option<Work>],
     numbers: &[u32],
     missing: &mut PathList,
-) -> Result<(), Stop>
+) -> Result<(), FilesStop>
     requires within { (i : ℕ) → Contains numbers.now i → i < length works.now }
     requires numbered { (i n : ℕ) → Contains (lacking_in (work_at works.now i)) n → IsNumber facts.old n }
     ensures asks { (steps : List Step) (roots : List (List ℕ))
@@ -99,7 +99,7 @@ fn add_paths<F: Files>(
     files: &mut F,
     paths: &[Path],
     missing: &mut PathList,
-) -> Result<(), Stop>
+) -> Result<(), FilesStop>
     ensures asks { AsksFiles plan.now.steps plan.now.roots facts.old (F.outside files.old) facts.new
         (F.outside files.new) result }
     ensures lists { OnOk result (ListsMissing (Contains paths.now) facts.new missing.old missing.new) }
@@ -120,7 +120,7 @@ pub fn missing_files<F: Files>(
     numbers: &[u32],
     facts: &mut Facts,
     files: &mut F,
-) -> Result<PathList, Stop>
+) -> Result<PathList, FilesStop>
     requires within { (i : ℕ) → Contains numbers.now i → i < length works.now }
     requires numbered { (i n : ℕ) → Contains (lacking_in (work_at works.now i)) n → IsNumber facts.old n }
     ensures asks { AsksFiles plan.now.steps plan.now.roots facts.old (F.outside files.old) facts.new

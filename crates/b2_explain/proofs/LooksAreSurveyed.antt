@@ -15,9 +15,9 @@ use Rattle.b2_log.specs.declared.line.LogLine.{LogLine}
 use Rattle.b2_log.specs.Finding.{find_record}
 use Rattle.b2_sched.specs.declared.state.State.TheVariants as states
 use Rattle.b2_sched.specs.Schedules.{Schedule, state_of, IsStep, IsSettled, IsUnjudged, IsNeeded}
-use Rattle.b2_sched.specs.Calls.{looked_at, with_stale, Settles}
-use Rattle.b2_facts.specs.declared.stop.Stop.{Stop}
-use Rattle.b2_facts.specs.declared.stop.Stop.TheVariants as stops
+use Rattle.b2_sched.specs.SchedulerCalls.{looked_at, with_stale, Settles}
+use Rattle.b2_facts.specs.declared.stop.FilesStop.{FilesStop}
+use Rattle.b2_facts.specs.declared.stop.FilesStop.TheVariants as stops
 use Rattle.b2_facts.specs.Stops.{StopTold}
 use Rattle.b2_facts.specs.Facts.{Knowledge, IsNumber, IsAbout}
 use Rattle.b2_facts.specs.Growth.{Grows, Learns, OfNone}
@@ -32,7 +32,7 @@ use Rattle.b2_reach.proofs.LinesStay.{unnoted_is_still}
 use Rattle.b2_verdicts.specs.declared.point.Point.{Point}
 use Rattle.b2_verdicts.specs.declared.step_numbers.StepNumbers.{StepNumbers}
 use Rattle.b2_verdicts.specs.Sights.{AreNumbers}
-use Rattle.b2_verdicts.specs.Calls.{IsOfStep, Always}
+use Rattle.b2_verdicts.specs.VerdictCalls.{IsOfStep, Always}
 use Rattle.b2_verdicts.specs.Points.{IsByStamps}
 use Rattle.b2_board.specs.declared.board.Board.{Board}
 use Rattle.b2_board.specs.declared.work.Work.{Work}
@@ -73,22 +73,22 @@ still_log x y only disk =
     ∙ ap (λ w. record y { disk = x.disk; children = x.children; failed_waits = w }) only.failed_waits
     ∙ ap (λ r. record y { disk = x.disk; children = x.children; failed_waits = x.failed_waits; risks = r }) only.risks
 
-pub faults_then : {T : Type 0} (x y z : Outside) (r : Result T Stop) → y.risks ≡ x.risks → y.faults ≡ x.faults → StopTold y z r → StopTold x z r
+pub faults_then : {T : Type 0} (x y z : Outside) (r : Result T FilesStop) → y.risks ≡ x.risks → y.faults ≡ x.faults → StopTold y z r → StopTold x z r
 faults_then x y z (Ok v) risks same told = told ∙ same
 faults_then x y z (Err stops.Host) risks same told = (ap (λ (r : Risks). r.may_fail) (sym risks) ∙ told.0, subst (λ n. Rose n z.faults) same told.1)
 faults_then x y z (Err stops.OutOfMemory) risks same told = told ∙ same
 faults_then x y z (Err (stops.TooBig number size)) risks same told = told ∙ same
 
 -- a stop is handed on
-pub faults_err : (T : Type 0) {S : Type 0} (x y : Outside) (stop : Stop) (r : Result S Stop) → r ≡ Err stop → StopTold {T = T} x y (Err stop) → StopTold x y r
+pub faults_err : (T : Type 0) {S : Type 0} (x y : Outside) (stop : FilesStop) (r : Result S FilesStop) → r ≡ Err stop → StopTold {T = T} x y (Err stop) → StopTold x y r
 faults_err T x y stops.Host r e told = subst (StopTold x y) (sym e) told
 faults_err T x y stops.OutOfMemory r e told = subst (StopTold x y) (sym e) told
 faults_err T x y (stops.TooBig number size) r e told = subst (StopTold x y) (sym e) told
 
-pub faults_failed : {S : Type 0} (x y : Outside) (r : Result S Stop) → r ≡ Err stops.Host → Fails x y → StopTold x y r
+pub faults_failed : {S : Type 0} (x y : Outside) (r : Result S FilesStop) → r ≡ Err stops.Host → Fails x y → StopTold x y r
 faults_failed x y r e fails = subst (StopTold x y) (sym e) (fails.may_fail, fails.rose)
 
-pub faults_no_memory : {S : Type 0} (x y : Outside) (r : Result S Stop) → r ≡ Err stops.OutOfMemory → y ≡ x → StopTold x y r
+pub faults_no_memory : {S : Type 0} (x y : Outside) (r : Result S FilesStop) → r ≡ Err stops.OutOfMemory → y ≡ x → StopTold x y r
 faults_no_memory x y r e same = subst (StopTold x y) (sym e) (ap (λ (o : Outside). o.faults) same)
 
 pub at_disk : (P : Disk → Type 0) (o : Option Disk) (d : Disk) → o ≡ Some d → IfSome o P → P d
@@ -97,11 +97,11 @@ at_disk P (Some x) d e is = subst P (some_is x d e) is
 
 -- ---- a look
 
-course_still : {T : Type 0} (steps : List Step) (s : Schedule) (f : Knowledge) (members : List ℕ) (log more : List LogLine) (x y : Outside) (r : Result T Stop) → CourseTold false steps (IsSettled s) f members log x more y r → (more ≡ log) × (y.disk ≡ x.disk)
+course_still : {T : Type 0} (steps : List Step) (s : Schedule) (f : Knowledge) (members : List ℕ) (log more : List LogLine) (x y : Outside) (r : Result T FilesStop) → CourseTold false steps (IsSettled s) f members log x more y r → (more ≡ log) × (y.disk ≡ x.disk)
 course_still steps s f members log more x y (Ok v) course = unnoted_is_still steps s f members log more x y (course_whole course)
 course_still steps s f members log more x y (Err stop) course = unnoted_is_still steps s f members log more x y course
 
-module _ {T : Type 0} (steps : List Step) (roots : List (List ℕ)) (sched : Schedule) (members : List ℕ) (s t : Sights) (x y : Outside) (r : Result T Stop) (grows : LearnsMore false steps roots (IsSettled sched) members s x t y r) where
+module _ {T : Type 0} (steps : List Step) (roots : List (List ℕ)) (sched : Schedule) (members : List ℕ) (s t : Sights) (x y : Outside) (r : Result T FilesStop) (grows : LearnsMore false steps roots (IsSettled sched) members s x t y r) where
   pub look_journal : t.journal ≡ s.journal
   look_journal = (course_still steps sched t.facts members s.journal t.journal x y r grows.course).0
 
@@ -120,7 +120,7 @@ module _ (plan : Plan) (all : Bool) (number : ℕ) (y : Survey) (board : Board) 
       told_by plan all a y b (record y { board = board; sights = t }) (Ok v) disk_same (λ disk at u entry folder lines is.
       looked_ok plan all u disk entry folder lines number y board t a b step needed surveyed at disk_same is reach v grows journal more))
 
-  pub look_stopped : (stop : Stop) → LearnsMore {T = Bool} false plan.steps plan.roots (IsSettled y.board.sched) (members_of board number) y.sights a t b (Err stop) → SurveyTold {T = Bool} plan all a y b (record y { board = board; sights = t }) (Err stop)
+  pub look_stopped : (stop : FilesStop) → LearnsMore {T = Bool} false plan.steps plan.roots (IsSettled y.board.sched) (members_of board number) y.sights a t b (Err stop) → SurveyTold {T = Bool} plan all a y b (record y { board = board; sights = t }) (Err stop)
   look_stopped stop grows = (
       let disk_same = look_disk {T = Bool} plan.steps plan.roots y.board.sched (members_of board number) y.sights t a b (Err stop) grows in
       told_by {T = Bool} plan all a y b (record y { board = board; sights = t }) (Err stop) disk_same (λ disk at u entry folder lines is.

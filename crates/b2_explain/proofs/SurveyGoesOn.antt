@@ -16,7 +16,7 @@ use Rattle.b2_sched.specs.declared.state.State.{State}
 use Rattle.b2_sched.specs.declared.state.State.TheVariants as states
 use Rattle.b2_sched.specs.NumberSets.{Has}
 use Rattle.b2_sched.specs.Schedules.{Schedule, state_of, IsStep, IsUnjudged}
-use Rattle.b2_sched.specs.Calls.{looked_at}
+use Rattle.b2_sched.specs.SchedulerCalls.{looked_at}
 use Rattle.b2_facts.specs.declared.file_facts.FileFacts.{FileFacts}
 use Rattle.b2_facts.specs.Facts.{Knowledge, IsNumber, IsAbout}
 use Rattle.b2_facts.specs.Growth.{Grows}

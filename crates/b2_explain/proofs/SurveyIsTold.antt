@@ -30,8 +30,8 @@ use Rattle.b2_sched.specs.Schedules.{IsStep, IsSettled, IsNeeded}
 use Rattle.b2_facts.specs.Facts.{Knowledge}
 use Rattle.b2_facts.specs.Growth.{Learns, OfNone}
 use Rattle.b2_facts.specs.Truth.{StaysTrue}
-use Rattle.b2_facts.specs.declared.stop.Stop.{Stop}
-use Rattle.b2_facts.specs.declared.stop.Stop.TheVariants as stops
+use Rattle.b2_facts.specs.declared.stop.FilesStop.{FilesStop}
+use Rattle.b2_facts.specs.declared.stop.FilesStop.TheVariants as stops
 use Rattle.b2_reach.specs.declared.sights.Sights.{Sights}
 use Rattle.b2_reach.specs.Reaches.{IsReachOf}
 use Rattle.b2_reach.specs.Sightings.{IsTrueSight, StaysTrueSight, TellsTooBig, IsTooBigTold, LearnsMore}
@@ -40,7 +40,7 @@ use Rattle.b2_reach.proofs.MembersAreKnown.{too_big_is_known}
 use Rattle.b2_reach.proofs.TruthIsKept.{sight_grows}
 use Rattle.b2_verdicts.specs.declared.point.Point.{Point}
 use Rattle.b2_verdicts.specs.declared.step_numbers.StepNumbers.{StepNumbers}
-use Rattle.b2_verdicts.specs.Calls.{IsOfStep}
+use Rattle.b2_verdicts.specs.VerdictCalls.{IsOfStep}
 use Rattle.b2_verdicts.specs.Cases.{AreNumbersOf, IsCase, IsNotfileTold, IsDoneTold}
 use Rattle.b2_verdicts.specs.Points.{IsByStamps, IsPointBy}
 use Rattle.b2_verdicts.proofs.VerdictsTell.{verdict_tells}
@@ -61,12 +61,12 @@ use Rattle.b2_explain.specs.Surveys.{IsEntry, AreSurveyed, IsTrueSurvey, IsStopO
 -- ---- told moments
 
 -- what a survey tells of one disk
-abbrev pub Told : {T : Type 0} → Plan → Bool → Survey → Survey → Result T Stop → Disk → Type 0
+abbrev pub Told : {T : Type 0} → Plan → Bool → Survey → Survey → Result T FilesStop → Disk → Type 0
 Told plan all y z result disk = (u : Update) → IsEntry plan all u → u.build.folder ≡ disk.now → AreTrueLines u disk.past → IsTrueSurvey u disk y
     → MatchResult result (λ x. IsTrueSurvey u disk z) (IsStopOf u disk z.sights.facts)
 
 -- what is told of the disk as it stands is told of both moments, where it stays
-pub told_by : {T : Type 0} (plan : Plan) (all : Bool) (a : Outside) (y : Survey) (b : Outside) (z : Survey) (result : Result T Stop) → b.disk ≡ a.disk → ((disk : Disk) → a.disk ≡ Some disk → Told plan all y z result disk) → SurveyTold plan all a y b z result
+pub told_by : {T : Type 0} (plan : Plan) (all : Bool) (a : Outside) (y : Survey) (b : Outside) (z : Survey) (result : Result T FilesStop) → b.disk ≡ a.disk → ((disk : Disk) → a.disk ≡ Some disk → Told plan all y z result disk) → SurveyTold plan all a y b z result
 told_by {T} plan all a y b z result same told = subst (λ o. BothTold (λ disk later. Told plan all y z result disk) a.disk o) (sym same) (go a.disk told)
   where
     go : (o : Option Disk) → ((disk : Disk) → o ≡ Some disk → Told plan all y z result disk) → BothTold (λ disk later. Told plan all y z result disk) o o
@@ -74,7 +74,7 @@ told_by {T} plan all a y b z result same told = subst (λ o. BothTold (λ disk l
     go (Some disk) h = h disk refl
 
 -- one part, and then another
-pub told_then : {T S : Type 0} (plan : Plan) (all : Bool) (a : Outside) (y : Survey) (b : Outside) (z : Survey) (c : Outside) (w : Survey) (v : T) (result : Result S Stop) → b.disk ≡ a.disk → c.disk ≡ b.disk → SurveyTold plan all a y b z (Ok v) → SurveyTold plan all b z c w result → SurveyTold plan all a y c w result
+pub told_then : {T S : Type 0} (plan : Plan) (all : Bool) (a : Outside) (y : Survey) (b : Outside) (z : Survey) (c : Outside) (w : Survey) (v : T) (result : Result S FilesStop) → b.disk ≡ a.disk → c.disk ≡ b.disk → SurveyTold plan all a y b z (Ok v) → SurveyTold plan all b z c w result → SurveyTold plan all a y c w result
 told_then {T} {S} plan all a y b z c w v result same also first next =
     told_by plan all a y c w result (also ∙ same) (λ disk e u entry folder lines is.
     (let one = at_first disk e u entry folder lines is in
@@ -89,7 +89,7 @@ told_then {T} {S} plan all a y b z c w v result same also first next =
         let t = subst (λ o. BothTold (λ disk later. Told plan all z w result disk) o o) e (subst (λ o. BothTold (λ disk later. Told plan all z w result disk) o o) same (subst (λ o. BothTold (λ disk later. Told plan all z w result disk) b.disk o) also next)) in t)
 
 -- a stop is handed on
-pub told_err : (T : Type 0) {S : Type 0} (plan : Plan) (all : Bool) (a : Outside) (y : Survey) (b : Outside) (z : Survey) (stop : Stop) (result : Result S Stop) → result ≡ Err stop → SurveyTold {T = T} plan all a y b z (Err stop) → SurveyTold {T = S} plan all a y b z result
+pub told_err : (T : Type 0) {S : Type 0} (plan : Plan) (all : Bool) (a : Outside) (y : Survey) (b : Outside) (z : Survey) (stop : FilesStop) (result : Result S FilesStop) → result ≡ Err stop → SurveyTold {T = T} plan all a y b z (Err stop) → SurveyTold {T = S} plan all a y b z result
 told_err T {S} plan all a y b z stop result e told = subst (SurveyTold {T = S} plan all a y b z) (sym e) told
 
 -- another value of the same
@@ -97,10 +97,10 @@ pub told_ok : {T S : Type 0} (plan : Plan) (all : Bool) (a : Outside) (y : Surve
 told_ok plan all a y b z v x told = told
 
 -- no memory is left, where nothing is promised then
-pub told_no_memory : {S : Type 0} (plan : Plan) (all : Bool) (a : Outside) (y : Survey) (b : Outside) (z : Survey) (result : Result S Stop) → b.disk ≡ a.disk → result ≡ Err stops.OutOfMemory → SurveyTold {T = S} plan all a y b z result
+pub told_no_memory : {S : Type 0} (plan : Plan) (all : Bool) (a : Outside) (y : Survey) (b : Outside) (z : Survey) (result : Result S FilesStop) → b.disk ≡ a.disk → result ≡ Err stops.OutOfMemory → SurveyTold {T = S} plan all a y b z result
 told_no_memory {S} plan all a y b z result same e = subst (SurveyTold {T = S} plan all a y b z) (sym e) (told_by {T = S} plan all a y b z (Err stops.OutOfMemory) same (λ disk at u entry folder lines is. tt))
 
-pub told_failed : {S : Type 0} (plan : Plan) (all : Bool) (a : Outside) (y : Survey) (b : Outside) (z : Survey) (result : Result S Stop) → b.disk ≡ a.disk → result ≡ Err stops.Host → SurveyTold {T = S} plan all a y b z result
+pub told_failed : {S : Type 0} (plan : Plan) (all : Bool) (a : Outside) (y : Survey) (b : Outside) (z : Survey) (result : Result S FilesStop) → b.disk ≡ a.disk → result ≡ Err stops.Host → SurveyTold {T = S} plan all a y b z result
 told_failed {S} plan all a y b z result same e = subst (SurveyTold {T = S} plan all a y b z) (sym e) (told_by {T = S} plan all a y b z (Err stops.Host) same (λ disk at u entry folder lines is. tt))
 
 -- nothing is done
@@ -156,7 +156,7 @@ module _ (plan : Plan) (all : Bool) (u : Update) (disk : Disk) (entry : IsEntry 
       settled = λ i settled. is.settled i (ap (λ (xs : List State). get_or xs i states.Settled) (sym more.states) ∙ settled);
     }
 
-    too_big : (stop : Stop) → IsTrueSight u disk t → TellsTooBig {T = Bool} plan.steps (IsSettled y.board.sched) t.facts (members_of board number) b (Err stop) → IsStopOf u disk t.facts stop
+    too_big : (stop : FilesStop) → IsTrueSight u disk t → TellsTooBig {T = Bool} plan.steps (IsSettled y.board.sched) t.facts (members_of board number) b (Err stop) → IsStopOf u disk t.facts stop
     too_big stops.Host sight told = tt
     too_big stops.OutOfMemory sight told = tt
     too_big (stops.TooBig n size) sight told = go (work_at board.works.items number) refl
@@ -174,7 +174,7 @@ module _ (plan : Plan) (all : Bool) (u : Update) (disk : Disk) (entry : IsEntry 
             let input : IsInput u [] so.path = record { number = number; needed = needed_entry y number number surveyed is needed; step = the_step.0; at = own; known = known } in
             (so.path, so.is_file.path_is, big_to_scan bytes (record { scanned = ap (λ scan. scan so.path) entry.update.scanned ∙ scanned; input = input; settled = value }) many more))
 
-    pub looked_stop : (stop : Stop) → LearnsMore {T = Bool} false plan.steps plan.roots (IsSettled y.board.sched) (members_of board number) y.sights a t b (Err stop) → IsStopOf u disk t.facts stop
+    pub looked_stop : (stop : FilesStop) → LearnsMore {T = Bool} false plan.steps plan.roots (IsSettled y.board.sched) (members_of board number) y.sights a t b (Err stop) → IsStopOf u disk t.facts stop
     looked_stop stop grows = too_big stop (later_sight grows.told) grows.too_big
 
   -- ---- a judgement

@@ -24,8 +24,8 @@ use Rattle.b2_sched.specs.Sound.{IsSound}
 use Rattle.b2_facts.specs.declared.file_facts.FileFacts.{FileFacts}
 use Rattle.b2_facts.specs.Facts.{Knowledge, IsFile, IsAbout, no_facts}
 use Rattle.b2_facts.specs.Truth.{AreTrue}
-use Rattle.b2_facts.specs.declared.stop.Stop.{Stop}
-use Rattle.b2_facts.specs.declared.stop.Stop.TheVariants as stops
+use Rattle.b2_facts.specs.declared.stop.FilesStop.{FilesStop}
+use Rattle.b2_facts.specs.declared.stop.FilesStop.TheVariants as stops
 use Rattle.b2_facts.specs.Stops.{StopTold}
 use Rattle.b2_facts.proofs.FactsAreEntered.{nothing_about, nothing_true}
 use Rattle.b2_facts.proofs.ListsAtPlaces.{some_is, none_some}
@@ -65,10 +65,10 @@ some_of P None all = tt
 some_of P (Some disk) all = all disk refl
 
 -- what a survey that began here tells of a disk
-abbrev TellsEnd : {T : Type 0} → Plan → Bool → Survey → Survey → Result T Stop → Disk → Type 0
+abbrev TellsEnd : {T : Type 0} → Plan → Bool → Survey → Survey → Result T FilesStop → Disk → Type 0
 TellsEnd plan all y z result disk = (u : Update) → IsEntry plan all u → u.build.folder ≡ disk.now → AreTrueLines u disk.past → IsTrueSurvey u disk y → MatchResult result (λ x. IsTrueSurvey u disk z) (IsStopOf u disk z.sights.facts)
 
-at_both : {T : Type 0} (plan : Plan) (all : Bool) (a b : Outside) (y z : Survey) (result : Result T Stop) (disk : Disk) → a.disk ≡ Some disk → b.disk ≡ a.disk → SurveyTold plan all a y b z result → TellsEnd plan all y z result disk
+at_both : {T : Type 0} (plan : Plan) (all : Bool) (a b : Outside) (y z : Survey) (result : Result T FilesStop) (disk : Disk) → a.disk ≡ Some disk → b.disk ≡ a.disk → SurveyTold plan all a y b z result → TellsEnd plan all y z result disk
 at_both plan all a b y z result disk at still told = go a.disk b.disk at (still ∙ at) told
   where
     go : (o p : Option Disk) → o ≡ Some disk → p ≡ Some disk → BothTold (λ old later. TellsEnd plan all y z result old) o p → TellsEnd plan all y z result disk
@@ -77,14 +77,14 @@ at_both plan all a b y z result disk at still told = go a.disk b.disk at (still 
     go (Some x) (Some w) e f h = subst (TellsEnd plan all y z result) (some_is x disk e) h
 
 -- a fault that a survey stopped with is told
-told_fault : {T : Type 0} (P : T → Type 0) (u : Update) (disk : Disk) (f : Knowledge) (stop : Stop) (fault : ExplainFault) → IsSurveyFault f stop fault → IsStopOf u disk f stop → ToldOr P u disk (Err fault)
+told_fault : {T : Type 0} (P : T → Type 0) (u : Update) (disk : Disk) (f : Knowledge) (stop : FilesStop) (fault : ExplainFault) → IsSurveyFault f stop fault → IsStopOf u disk f stop → ToldOr P u disk (Err fault)
 told_fault P u disk f stops.Host fault e told = subst (λ x. ToldOr P u disk (Err x)) (sym e) tt
 told_fault P u disk f stops.OutOfMemory fault e told = subst (λ x. ToldOr P u disk (Err x)) (sym e) tt
 told_fault P u disk f (stops.TooBig number size) faults.Host is told = absurd is
 told_fault P u disk f (stops.TooBig number size) (faults.TooBig path bytes) (at, same) (own, own_at, big) = subst (λ n. IsTooBig u [] disk.now path n) (sym same) (subst (λ q. IsTooBig u [] disk.now q size) (some_is own path (sym own_at ∙ at)) big)
 told_fault P u disk f (stops.TooBig number size) faults.OutOfMemory is told = tt
 
-pub counts_fault : (T S : Type 0) (x y : Outside) (f : Knowledge) (stop : Stop) (fault : ExplainFault) → IsSurveyFault f stop fault → StopTold {T = T} x y (Err stop) → ExplainCounts {T = S} x y (Err fault)
+pub counts_fault : (T S : Type 0) (x y : Outside) (f : Knowledge) (stop : FilesStop) (fault : ExplainFault) → IsSurveyFault f stop fault → StopTold {T = T} x y (Err stop) → ExplainCounts {T = S} x y (Err fault)
 counts_fault T S x y f stops.Host fault e told = subst (λ q. ExplainCounts {T = S} x y (Err q)) (sym e) told
 counts_fault T S x y f stops.OutOfMemory fault e told = subst (λ q. ExplainCounts {T = S} x y (Err q)) (sym e) told
 counts_fault T S x y f (stops.TooBig number size) faults.Host is told = absurd is
@@ -140,7 +140,7 @@ module _ (plan : Plan) (all : Bool) (log : List LogLine) where
       settled = none_settled plan all y (entry disk made) is refl unjudged;
     }
 
-    ends_at : {T : Type 0} (result : Result T Stop) → SurveyTold plan all before y after z result → (disk : Disk) → before.disk ≡ Some disk → (made : Made) → AreTrueLines (entry disk made) disk.past
+    ends_at : {T : Type 0} (result : Result T FilesStop) → SurveyTold plan all before y after z result → (disk : Disk) → before.disk ≡ Some disk → (made : Made) → AreTrueLines (entry disk made) disk.past
         → MatchResult result (λ x. IsTrueSurvey (entry disk made) disk z) (IsStopOf (entry disk made) disk z.sights.facts)
     ends_at result told disk at made lines =
         at_both plan all before after y z result disk at still told (entry disk made) (entry_so apart disk made) refl lines (true_begun disk made (at_disk IsConsistent before.disk disk at consistent) lines)
@@ -150,7 +150,7 @@ module _ (plan : Plan) (all : Bool) (log : List LogLine) where
     ends_ok v told = some_of (λ disk. (made : Made) → AreTrueLines (entry disk made) disk.past → IsTrueSurvey (entry disk made) disk z) before.disk (λ disk at made lines. ends_at (Ok v) told disk at made lines)
 
     -- it stopped
-    pub ends_err : (stop : Stop) (fault : ExplainFault) → IsSurveyFault z.sights.facts stop fault → SurveyTold {T = Unit {0}} plan all before y after z (Err stop) → SurveyEnds plan all log before (Err fault)
+    pub ends_err : (stop : FilesStop) (fault : ExplainFault) → IsSurveyFault z.sights.facts stop fault → SurveyTold {T = Unit {0}} plan all before y after z (Err stop) → SurveyEnds plan all log before (Err fault)
     ends_err stop fault is_fault told = some_of (λ disk. (made : Made) → AreTrueLines (entry disk made) disk.past → ToldOr (IsTrueSurvey (entry disk made) disk) (entry disk made) disk (Err fault)) before.disk
         (λ disk at made lines. told_fault (IsTrueSurvey (entry disk made) disk) (entry disk made) disk z.sights.facts stop fault is_fault (ends_at {T = Unit {0}} (Err stop) told disk at made lines))
 

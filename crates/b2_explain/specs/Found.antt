@@ -11,8 +11,8 @@ use Rattle.b2_log.specs.Finding.{find_record}
 use Rattle.b2_sched.specs.Schedules.{IsNeeded, CanLook, Lacks}
 use Rattle.b2_runs.specs.Outcomes.{IsListOf}
 use Rattle.b2_facts.specs.Facts.{Knowledge, IsAbout, path_at}
-use Rattle.b2_facts.specs.declared.stop.Stop.{Stop}
-use Rattle.b2_facts.specs.declared.stop.Stop.TheVariants as stops
+use Rattle.b2_facts.specs.declared.stop.FilesStop.{FilesStop}
+use Rattle.b2_facts.specs.declared.stop.FilesStop.TheVariants as stops
 use Rattle.b2_board.specs.Boards.{members_of}
 use Rattle.b2_reach.specs.Reaches.{IsMissingMember}
 use Rattle.b2_explain.specs.declared.cause.Cause.{Cause}
@@ -27,7 +27,7 @@ use Rattle.b2_explain.specs.Whys.{step_in}
 use Rattle.b2_explain.specs.Explained.{TrueEntries, ToldOr}
 
 -- a survey stopped with this fault; where no memory was left to tell it, with that
-abbrev pub IsSurveyFault : Knowledge → Stop → ExplainFault → Type 0
+abbrev pub IsSurveyFault : Knowledge → FilesStop → ExplainFault → Type 0
 IsSurveyFault f stops.Host fault = fault ≡ faults.Host
 IsSurveyFault f stops.OutOfMemory fault = fault ≡ faults.OutOfMemory
 IsSurveyFault f (stops.TooBig number size) faults.Host = ⊥

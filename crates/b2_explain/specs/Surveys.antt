@@ -16,8 +16,8 @@ use Rattle.b2_runs.specs.Outcomes.{IsSettledStep}
 use Rattle.b2_sched.specs.NumberSets.{Has}
 use Rattle.b2_sched.specs.Schedules.{Schedule, IsStep, IsUnjudged, IsStale, IsSettled}
 use Rattle.b2_facts.specs.Facts.{Knowledge, path_at}
-use Rattle.b2_facts.specs.declared.stop.Stop.{Stop}
-use Rattle.b2_facts.specs.declared.stop.Stop.TheVariants as stops
+use Rattle.b2_facts.specs.declared.stop.FilesStop.{FilesStop}
+use Rattle.b2_facts.specs.declared.stop.FilesStop.TheVariants as stops
 use Rattle.b2_reach.specs.declared.sights.Sights.{Sights}
 use Rattle.b2_reach.specs.Sightings.{IsTrueSight}
 use Rattle.b2_reach.specs.Laws.{IsUpdateOf}
@@ -84,13 +84,13 @@ pub record IsTrueSurvey (u : Update) (disk : Disk) (y : Survey) : Type 0 where
   pub settled : (i : ℕ) → IsSettled y.board.sched i → IsSettledStep u [] i
 
 -- a file that is too big to be scanned is one that a needed step reads
-abbrev pub IsStopOf : Update → Disk → Knowledge → Stop → Type 0
+abbrev pub IsStopOf : Update → Disk → Knowledge → FilesStop → Type 0
 IsStopOf u disk f stops.Host = Unit {0}
 IsStopOf u disk f stops.OutOfMemory = Unit {0}
 IsStopOf u disk f (stops.TooBig number size) = (path : List ℕ) × (path_at f number ≡ Some path) × IsTooBig u [] disk.now path size
 
 -- what a survey tells that goes on, or stops
-abbrev pub SurveyTold : {T : Type 0} → Plan → Bool → Outside → Survey → Outside → Survey → Result T Stop → Type 0
+abbrev pub SurveyTold : {T : Type 0} → Plan → Bool → Outside → Survey → Outside → Survey → Result T FilesStop → Type 0
 SurveyTold plan all old y new z result = BothTold (λ disk later. (u : Update) → IsEntry plan all u
     → u.build.folder ≡ disk.now → AreTrueLines u disk.past → IsTrueSurvey u disk y
     → MatchResult result (λ x. IsTrueSurvey u disk z) (IsStopOf u disk z.sights.facts)) old.disk new.disk

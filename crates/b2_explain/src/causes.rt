@@ -17,7 +17,7 @@ use crate::cause::Cause;
 use b2_base::fault::OutOfMemory;
 use b2_base::path::Path;
 use b2_facts::facts::Facts;
-use b2_facts::file_facts::{FileFacts, Seen};
+use b2_facts::file_facts::{FileFacts, FileLook};
 use b2_log::line::Record;
 use b2_sched::sched::Sched;
 use b2_verdicts::point::Point;
@@ -30,8 +30,8 @@ pub fn stamp_seen(facts: &Facts, number: u32) -> Option<u64>
     ensures { result ≡ stamp_of facts.now number }
 {
     match facts.file(number).seen {
-        Seen::Stands(stamp) => Some(stamp),
-        Seen::Unasked | Seen::Gone => None,
+        FileLook::Stands(stamp) => Some(stamp),
+        FileLook::Unasked | FileLook::Gone => None,
     }
 }
 
@@ -39,7 +39,7 @@ pub fn stamp_seen(facts: &Facts, number: u32) -> Option<u64>
 pub fn is_missing(file: &FileFacts) -> bool
     ensures { IsTrue result ↔ IsNotGivenBy file.now }
 {
-    file.maker.is_none() && (file.rooted || matches!(file.seen, Seen::Gone))
+    file.maker.is_none() && (file.rooted || matches!(file.seen, FileLook::Gone))
 }
 
 /// Whether a file is an output of a step that is not settled.

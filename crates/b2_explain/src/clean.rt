@@ -17,7 +17,7 @@ use b2_host::fault::IoFault;
 use b2_host::files::Files;
 use b2_host::sink::Sink;
 use b2_journal::journal::Journal;
-use b2_journal::rule::Rule;
+use b2_journal::opening_rule::OpeningRule;
 use b2_log::line::LogLine;
 use b2_plan::plan::Plan;
 use b2_plan::step::Step;
@@ -183,6 +183,6 @@ pub fn clean_plan<F: Files, S: Sink>(
     ensures keeps { Keeps (F.outside files.old) (F.outside files.new) }
     ensures out_keeps { OutKeeps (S.output out.old) (S.output out.new) }
 {
-    let mut journal = Journal::open(alloc, files, Rule::Cut)?;
+    let mut journal = Journal::open(alloc, files, OpeningRule::Cut)?;
     clean_steps(alloc, plan.steps.as_slice(), &mut journal, files, out)
 }

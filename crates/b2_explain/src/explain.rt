@@ -17,7 +17,7 @@ use crate::survey::{Survey, members_of};
 use b2_base::fault::OutOfMemory;
 use b2_board::steps::step_of;
 use b2_facts::facts::Facts;
-use b2_facts::stop::Stop;
+use b2_facts::stop::FilesStop;
 use b2_host::files::Files;
 use b2_log::log::Log;
 use b2_plan::plan::Plan;
@@ -26,7 +26,7 @@ use std::alloc::Global;
 
 /// That the file with a number is too big to be scanned.
 fn too_big(facts: &Facts, number: u32, size: u64) -> ExplainFault
-    ensures { IsSurveyFault facts.now (Stop.TooBig number size) result }
+    ensures { IsSurveyFault facts.now (FilesStop.TooBig number size) result }
 {
     let Some(path) = facts.find_path(number) else {
         return ExplainFault::OutOfMemory;
@@ -38,13 +38,13 @@ fn too_big(facts: &Facts, number: u32, size: u64) -> ExplainFault
 }
 
 /// Why a survey stopped.
-fn fault_of(facts: &Facts, stop: Stop) -> ExplainFault
+fn fault_of(facts: &Facts, stop: FilesStop) -> ExplainFault
     ensures { IsSurveyFault facts.now stop result }
 {
     match stop {
-        Stop::Host => ExplainFault::Host,
-        Stop::OutOfMemory => ExplainFault::OutOfMemory,
-        Stop::TooBig { number, size } => too_big(facts, number, size),
+        FilesStop::Host => ExplainFault::Host,
+        FilesStop::OutOfMemory => ExplainFault::OutOfMemory,
+        FilesStop::TooBig { number, size } => too_big(facts, number, size),
     }
 }
 

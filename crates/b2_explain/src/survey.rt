@@ -9,10 +9,10 @@ ghost use Rattle.b2_log.specs.Finding.{kept, find_record};
 ghost use Rattle.b2_sched.specs.Schedules.{IsStep, IsNeeded, IsUnjudged, CanLook};
 ghost use Rattle.b2_facts.specs.Facts.{Knowledge, IsAbout, no_facts};
 ghost use Rattle.b2_facts.specs.Stops.{StopTold};
-ghost use Rattle.b2_sched.specs.Calls.{with_stale, Settles};
+ghost use Rattle.b2_sched.specs.SchedulerCalls.{with_stale, Settles};
 ghost use Rattle.b2_verdicts.specs.Sights.{AreNumbers};
 ghost use Rattle.b2_verdicts.specs.Points.{IsByStamps};
-ghost use Rattle.b2_verdicts.specs.Calls.{IsOfStep, KnowsMore, Always};
+ghost use Rattle.b2_verdicts.specs.VerdictCalls.{IsOfStep, KnowsMore, Always};
 ghost use Rattle.b2_board.specs.Boards.{IsBoard, IsOver, members_of};
 ghost use Rattle.b2_looks.specs.Looks.{looks_ahead};
 ghost use Rattle.b2_explain.specs.Surveys.{AreSurveyed, IsStill, SurveyTold, judged_at};
@@ -21,7 +21,7 @@ use b2_base::fault::OutOfMemory;
 use b2_board::board::Board;
 use b2_board::steps::step_of;
 use b2_facts::facts::Facts;
-use b2_facts::stop::Stop;
+use b2_facts::stop::FilesStop;
 use b2_host::fault::Failed;
 use b2_host::files::Files;
 use b2_journal::journal::Journal;
@@ -190,7 +190,7 @@ impl Survey {
         all: bool,
         files: &mut F,
         number: u32,
-    ) -> Result<(), Stop>
+    ) -> Result<(), FilesStop>
         requires apart { Apart plan.now.steps plan.now.roots }
         requires surveyed { AreSurveyed plan.now all number self.old }
         requires about { IsAbout plan.now.steps plan.now.roots self.old.sights.facts }
@@ -222,7 +222,7 @@ impl Survey {
         all: bool,
         files: &mut F,
         number: u32,
-    ) -> Result<(), Stop>
+    ) -> Result<(), FilesStop>
         requires apart { Apart plan.now.steps plan.now.roots }
         requires surveyed { AreSurveyed plan.now all number self.old }
         requires about { IsAbout plan.now.steps plan.now.roots self.old.sights.facts }
@@ -251,7 +251,7 @@ impl Survey {
         plan: &Plan,
         all: bool,
         files: &mut F,
-    ) -> Result<(), Stop>
+    ) -> Result<(), FilesStop>
         requires apart { Apart plan.now.steps plan.now.roots }
         requires surveyed { AreSurveyed plan.now all 0 self.old }
         requires about { IsAbout plan.now.steps plan.now.roots self.old.sights.facts }

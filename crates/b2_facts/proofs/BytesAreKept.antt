@@ -14,13 +14,13 @@ use Rattle.b2_log.specs.declared.line.LogLine.{LogLine}
 use Rattle.b2_log.specs.Finding.{find_scan}
 use Rattle.jam_scan.specs.Scans.{is_scanned, scan_of}
 use Rattle.jam_scan.specs.IncludeLines.{includes_of}
-use Rattle.b2_facts.specs.declared.file_facts.Seen.{Seen}
-use Rattle.b2_facts.specs.declared.file_facts.Seen.TheVariants as seen
+use Rattle.b2_facts.specs.declared.file_facts.FileLook.{FileLook}
+use Rattle.b2_facts.specs.declared.file_facts.FileLook.TheVariants as seen
 use Rattle.b2_facts.specs.declared.file_facts.FileFacts.{FileFacts}
 use Rattle.b2_facts.specs.declared.fault.ReadFault.{ReadFault}
 use Rattle.b2_facts.specs.declared.fault.ReadFault.TheVariants as faults
-use Rattle.b2_facts.specs.declared.scans.Scanned.{Scanned}
-use Rattle.b2_facts.specs.declared.scans.Scanned.TheVariants as scanned
+use Rattle.b2_facts.specs.declared.scans.ScanAnswer.{ScanAnswer}
+use Rattle.b2_facts.specs.declared.scans.ScanAnswer.TheVariants as scanned
 use Rattle.b2_facts.specs.ReadFaults.{of_io}
 use Rattle.b2_facts.specs.Digests.{digest_of}
 use Rattle.b2_facts.specs.Facts.{Knowledge, with_file, IsFile, IsPlanned, IsRead, path_at, file_at}
@@ -93,7 +93,7 @@ stands_bytes now path stamp e = go (now path) refl e
     go (Some file) is h = (file.bytes, ap (option_map (λ (x : File). x.bytes)) is)
 
 pub seen_stamp : (b : Build) (now : Folder) (path : List ℕ) (file : FileFacts) (stamp : ℕ) → file.seen ≡ seen.Stands stamp → AreTrueOfFile b now path file → stamp_at now path ≡ Some stamp
-seen_stamp b now path file stamp stands t = subst (λ (s : Seen). IsSeen s (stamp_at now path)) stands t.seen
+seen_stamp b now path file stamp stands t = subst (λ (s : FileLook). IsSeen s (stamp_at now path)) stands t.seen
 
 pub line_so : (b : Build) (now : Folder) (lines : List LogLine) (path : List ℕ) (file : FileFacts) (stamp : ℕ) (line : ScanLine) → file.seen ≡ seen.Stands stamp → AreTrueOfFile b now path file → ScansTell b now lines → find_scan path stamp lines ≡ Some line → IsReadAs (b.inc path) (bytes_at now path) (Some line.includes)
 line_so b now lines path file stamp line stands t tells found =
@@ -191,7 +191,7 @@ not_too_big most path now io.Failed = tt
 not_too_big most path now io.OutOfMemory = tt
 
 -- a scan that reads
-pub scans_read : (g : Knowledge) (n : ℕ) (lines : List LogLine) (path : List ℕ) (file : FileFacts) (stamp : ℕ) (before after : Outside) → IsFile g n path file → file.seen ≡ seen.Stands stamp → find_scan path stamp lines ≡ None → (r : Result Scanned ReadFault) → ReadsForAnswer path before after r → Scans g n lines before after r
+pub scans_read : (g : Knowledge) (n : ℕ) (lines : List LogLine) (path : List ℕ) (file : FileFacts) (stamp : ℕ) (before after : Outside) → IsFile g n path file → file.seen ≡ seen.Stands stamp → find_scan path stamp lines ≡ None → (r : Result ScanAnswer ReadFault) → ReadsForAnswer path before after r → Scans g n lines before after r
 scans_read g n lines path file stamp before after is stands unknown (Ok scanned.Known) h = absurd h
 scans_read g n lines path file stamp before after is stands unknown (Ok (scanned.Read line)) h = record { path = path; file = file; is_file = is; stamp = stamp; stands = stands; unknown = unknown; read = h }
 scans_read g n lines path file stamp before after is stands unknown (Ok scanned.Gone) h = inr (record { path = path; file = file; is_file = is; stamp = stamp; stands = stands; unknown = unknown; read = h })
@@ -200,7 +200,7 @@ scans_read g n lines path file stamp before after is stands unknown (Err faults.
 scans_read g n lines path file stamp before after is stands unknown (Err faults.OutOfMemory) (inr h) = inr (record { path = path; file = file; is_file = is; stamp = stamp; stands = stands; unknown = unknown; read = h })
 scans_read g n lines path file stamp before after is stands unknown (Err (faults.TooBig size)) h = record { path = path; file = file; is_file = is; stamp = stamp; stands = stands; unknown = unknown; read = h }
 
-pub scans_after : (f g : Knowledge) (n : ℕ) (lines : List LogLine) (path : List ℕ) (file : FileFacts) (stamp : ℕ) (before after : Outside) → Grows f g → path_at f n ≡ Some path → file_at f n ≡ Some file → file.seen ≡ seen.Stands stamp → None ≡ find_scan path stamp lines → (r : Result Scanned ReadFault) → ReadsForAnswer path before after r → Scans g n lines before after r
+pub scans_after : (f g : Knowledge) (n : ℕ) (lines : List LogLine) (path : List ℕ) (file : FileFacts) (stamp : ℕ) (before after : Outside) → Grows f g → path_at f n ≡ Some path → file_at f n ≡ Some file → file.seen ≡ seen.Stands stamp → None ≡ find_scan path stamp lines → (r : Result ScanAnswer ReadFault) → ReadsForAnswer path before after r → Scans g n lines before after r
 scans_after f g n lines path file stamp before after grows there was stands unknown r h =
     let later = grows.files n file was in
     scans_read g n lines path later.0 stamp before after (record { path_is = grows.paths n path there; file_is = later.1 }) (seen_known file.seen later.0.seen stamp stands later.2.seen) (sym unknown) r h

@@ -6,8 +6,8 @@ use Rattle.std.specs.Option.{IfSome}
 use Rattle.b2_host.specs.Disks.{Folder, Disk}
 use Rattle.b2_plan.specs.declared.step.Step.{Step}
 use Rattle.b2_plan.specs.Sources.{Build, Include}
-use Rattle.b2_facts.specs.declared.file_facts.Seen.{Seen}
-use Rattle.b2_facts.specs.declared.file_facts.Seen.TheVariants as seen
+use Rattle.b2_facts.specs.declared.file_facts.FileLook.{FileLook}
+use Rattle.b2_facts.specs.declared.file_facts.FileLook.TheVariants as seen
 use Rattle.b2_facts.specs.declared.file_facts.FileFacts.{FileFacts}
 use Rattle.b2_facts.specs.Facts.{Knowledge, IsNumber, IsList, IsBlank, file_at}
 use Rattle.b2_facts.specs.Growth.{StaysSeen, Stays, FileGrows, Grows, IsLookedAt, LearnsOf, Learns}
@@ -17,12 +17,12 @@ use Rattle.b2_facts.proofs.ListsAtPlaces.{get_some, none_some}
 
 -- ---- one file
 
-seen_same : (s : Seen) → StaysSeen s s
+seen_same : (s : FileLook) → StaysSeen s s
 seen_same seen.Unasked = tt
 seen_same seen.Gone = refl
 seen_same (seen.Stands stamp) = refl
 
-seen_then : (r s t : Seen) → StaysSeen r s → StaysSeen s t → StaysSeen r t
+seen_then : (r s t : FileLook) → StaysSeen r s → StaysSeen s t → StaysSeen r t
 seen_then seen.Unasked s t a b = tt
 seen_then seen.Gone s t a b = subst (λ x. StaysSeen x t) a b
 seen_then (seen.Stands stamp) s t a b = subst (λ x. StaysSeen x t) a b
@@ -52,10 +52,10 @@ file_then x y z a b = record {
 pub stays_known : {X : Type 0} (x y : Option X) (known : X) → x ≡ Some known → Stays x y → y ≡ Some known
 stays_known x y known e h = subst (λ o. Stays o y) e h
 
-pub seen_known : (s t : Seen) (stamp : ℕ) → s ≡ seen.Stands stamp → StaysSeen s t → t ≡ seen.Stands stamp
+pub seen_known : (s t : FileLook) (stamp : ℕ) → s ≡ seen.Stands stamp → StaysSeen s t → t ≡ seen.Stands stamp
 seen_known s t stamp e h = subst (λ x. StaysSeen x t) e h
 
-pub gone_known : (s t : Seen) → s ≡ seen.Gone → StaysSeen s t → t ≡ seen.Gone
+pub gone_known : (s t : FileLook) → s ≡ seen.Gone → StaysSeen s t → t ≡ seen.Gone
 gone_known s t e h = subst (λ x. StaysSeen x t) e h
 
 -- ---- all

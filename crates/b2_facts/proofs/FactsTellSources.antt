@@ -12,8 +12,8 @@ use Rattle.b2_plan.specs.declared.step.Step.{Step}
 use Rattle.b2_plan.specs.Plans.{maker_from}
 use Rattle.b2_plan.specs.Sources.{Build, Include, IsInRoots, IsSource, IsGiven, IsMissing, IsFound, Includes}
 use Rattle.jam_scan.specs.Places.{places}
-use Rattle.b2_facts.specs.declared.file_facts.Seen.{Seen}
-use Rattle.b2_facts.specs.declared.file_facts.Seen.TheVariants as seen
+use Rattle.b2_facts.specs.declared.file_facts.FileLook.{FileLook}
+use Rattle.b2_facts.specs.declared.file_facts.FileLook.TheVariants as seen
 use Rattle.b2_facts.specs.declared.file_facts.FileFacts.{FileFacts}
 use Rattle.b2_facts.specs.Facts.{Knowledge, with_found, IsFile, IsPlanned, IsAbout, IsBlank, path_at}
 use Rattle.b2_facts.specs.Truth.{IsBuildOf, KeepsSources, IsSeen, IsReadAs, AreTrueOfFile, AreTargets, AreTrue, StaysTrue}
@@ -78,7 +78,7 @@ module _ (steps : List Step) (roots : List (List ℕ)) (b : Build) (now : Folder
       let r = maker_there steps 1 path number (sym planned.maker ∙ is) in
       inr (suc r.0, r.1, record { at = subst (λ (ss : List Step). slice_get ss r.0 ≡ Some r.1) (sym build.steps_are) r.2; among = r.3 })
   given_so path file planned t (IsGivenBy.source stamp outside is) =
-      let there = stands_bytes now path stamp (subst (λ (s : Seen). IsSeen s (stamp_at now path)) is t.seen) in
+      let there = stands_bytes now path stamp (subst (λ (s : FileLook). IsSeen s (stamp_at now path)) is t.seen) in
       inl (there.0, source_now path there.0 (λ inside. let x : false ≡ true = sym outside ∙ planned.rooted.1 inside in cc) there.1)
 
   pub missing_so : (path : List ℕ) (file : FileFacts) → IsPlanned steps roots path file → AreTrueOfFile b now path file → IsNotGivenBy file → IsGiven b path → ⊥
@@ -87,7 +87,7 @@ module _ (steps : List Step) (roots : List (List ℕ)) (b : Build) (now : Folder
       maker_absent steps 1 path (sym planned.maker ∙ none.unmade) k step (subst (λ (ss : List Step). slice_get ss k ≡ Some step) build.steps_are makes.at) makes.among
   missing_so path file planned t none (inl (bytes, source)) = elim none.no_source [
     | inl rooted ↦ source.outside (subst (λ (r : List (List ℕ)). IsInRoots r path) (sym build.roots_are) (planned.rooted.0 rooted))
-    | inr gone ↦ no_bytes (now path) (subst (λ (s : Seen). IsSeen s (stamp_at now path)) gone t.seen) (ap (option_map (λ (x : File). x.bytes)) (kept path source.outside) ∙ source.stands)
+    | inr gone ↦ no_bytes (now path) (subst (λ (s : FileLook). IsSeen s (stamp_at now path)) gone t.seen) (ap (option_map (λ (x : File). x.bytes)) (kept path source.outside) ∙ source.stands)
   ]
     where
       no_bytes : (o : Option File) → option_map (λ (x : File). x.stamp) o ≡ None → option_map (λ (x : File). x.bytes) o ≡ Some bytes → ⊥
@@ -162,7 +162,7 @@ found_so steps roots now f list n path dirs includes targets looking firsts b bu
 
 -- ---- laws
 
-seen_unasked : (s : Seen) → (s ≡ seen.Unasked) ⊎ (s ≡ seen.Unasked → ⊥)
+seen_unasked : (s : FileLook) → (s ≡ seen.Unasked) ⊎ (s ≡ seen.Unasked → ⊥)
 seen_unasked seen.Unasked = inl refl
 seen_unasked seen.Gone = inr (λ e. cc)
 seen_unasked (seen.Stands stamp) = inr (λ e. cc)

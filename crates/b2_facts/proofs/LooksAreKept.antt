@@ -4,8 +4,8 @@ use Rattle.b2_host.specs.Disks.{Folder, StatTold}
 use Rattle.b2_host.specs.FileCalls.{stamp_at}
 use Rattle.b2_plan.specs.declared.step.Step.{Step}
 use Rattle.b2_plan.specs.Sources.{Build}
-use Rattle.b2_facts.specs.declared.file_facts.Seen.{Seen}
-use Rattle.b2_facts.specs.declared.file_facts.Seen.TheVariants as seen
+use Rattle.b2_facts.specs.declared.file_facts.FileLook.{FileLook}
+use Rattle.b2_facts.specs.declared.file_facts.FileLook.TheVariants as seen
 use Rattle.b2_facts.specs.declared.file_facts.FileFacts.{FileFacts}
 use Rattle.b2_facts.specs.Facts.{Knowledge, with_file, IsNumber, IsRead, IsAbout, path_at, file_at}
 use Rattle.b2_facts.specs.Growth.{StaysSeen, IsOutside, Learns, OfOne}
@@ -22,14 +22,14 @@ number_file f n is = get_some f.files n is.1
 -- ---- a stamp
 
 -- what was seen is set by a stamp
-pub seen_by : (f g : Knowledge) (n : ℕ) (s : Seen) (stamp : Option ℕ) → s ≡ seen_of stamp → ((file : FileFacts) → file_at f n ≡ Some file → g ≡ with_file f n (record file { seen = s }))
+pub seen_by : (f g : Knowledge) (n : ℕ) (s : FileLook) (stamp : Option ℕ) → s ≡ seen_of stamp → ((file : FileFacts) → file_at f n ≡ Some file → g ≡ with_file f n (record file { seen = s }))
     → (file : FileFacts) → file_at f n ≡ Some file → g ≡ with_file f n (record file { seen = seen_of stamp })
-seen_by f g n s stamp same set = subst (λ (t : Seen). (file : FileFacts) → file_at f n ≡ Some file → g ≡ with_file f n (record file { seen = t })) same set
+seen_by f g n s stamp same set = subst (λ (t : FileLook). (file : FileFacts) → file_at f n ≡ Some file → g ≡ with_file f n (record file { seen = t })) same set
 
 module _ (f g : Knowledge) (n : ℕ) (file : FileFacts) (was : file_at f n ≡ Some file) (unasked : file.seen ≡ seen.Unasked) (stamp : Option ℕ) (after : g ≡ with_file f n (record file { seen = seen_of stamp })) where
   pub stamp_learns : (steps : List Step) (roots : List (List ℕ)) → Learns steps roots (OfOne n) f g
   stamp_learns steps roots = subst (Learns steps roots (OfOne n) f) (sym after) (learns_file steps roots (OfOne n) f n file (record file { seen = seen_of stamp }) was
-      (record { maker = refl; rooted = refl; scanned = refl; seen = subst (λ (s : Seen). StaysSeen s (seen_of stamp)) (sym unasked) tt; includes = stays_same file.includes; digest = stays_same file.digest })
+      (record { maker = refl; rooted = refl; scanned = refl; seen = subst (λ (s : FileLook). StaysSeen s (seen_of stamp)) (sym unasked) tt; includes = stays_same file.includes; digest = stays_same file.digest })
       (λ path p. record { maker = p.maker; rooted = p.rooted; scanned = p.scanned; read = p.read; digested = p.digested }) refl)
 
   pub stamp_true : (steps : List Step) (roots : List (List ℕ)) (now : Folder) (path : List ℕ) → path_at f n ≡ Some path → StatTold path stamp now → StaysTrue steps roots now f g
@@ -48,7 +48,7 @@ pub stamp_known : (f : Knowledge) (n : ℕ) (known : FileFacts) (stamp : Option 
 stamp_known f n known stamp was is file e =
     let same : known ≡ file = some_is known file (sym was ∙ e) in
     let seen_is : file.seen ≡ seen_of stamp = subst (λ (x : FileFacts). x.seen ≡ seen_of stamp) same is in
-    sym (ap (λ (s : Seen). with_file f n (record file { seen = s })) (sym seen_is) ∙ file_as_was f n file e)
+    sym (ap (λ (s : FileLook). with_file f n (record file { seen = s })) (sym seen_is) ∙ file_as_was f n file e)
 
 -- ---- given
 
@@ -56,7 +56,7 @@ stamp_known f n known stamp was is file e =
 pub unread_equal : (f g : Knowledge) (n : ℕ) (file : FileFacts) → g ≡ f → file_at f n ≡ Some file → (later : FileFacts) → file_at g n ≡ Some later → IsRead later → IsRead file
 unread_equal f g n file same was later is read = subst IsRead (sym (some_is file later (sym was ∙ subst (λ (k : Knowledge). file_at k n ≡ Some later) same is))) read
 
-pub unread_seen : (f g : Knowledge) (n : ℕ) (file : FileFacts) (s : Seen) → g ≡ with_file f n (record file { seen = s }) → file_at f n ≡ Some file → (later : FileFacts) → file_at g n ≡ Some later → IsRead later → IsRead file
+pub unread_seen : (f g : Knowledge) (n : ℕ) (file : FileFacts) (s : FileLook) → g ≡ with_file f n (record file { seen = s }) → file_at f n ≡ Some file → (later : FileFacts) → file_at g n ≡ Some later → IsRead later → IsRead file
 unread_seen f g n file s after was later is read =
     let one : record file { seen = s } ≡ later = some_is (record file { seen = s }) later (sym (set_here f.files n (record file { seen = s }) file was) ∙ subst (λ (k : Knowledge). file_at k n ≡ Some later) after is) in
     let back : IsRead (record file { seen = s }) = subst IsRead (sym one) read in

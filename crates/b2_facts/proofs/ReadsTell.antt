@@ -10,11 +10,11 @@ use Rattle.b2_log.specs.declared.line.LogLine.{LogLine}
 use Rattle.b2_log.specs.Finding.{find_scan}
 use Rattle.b2_log.specs.Good.{IsDigest}
 use Rattle.jam_scan.specs.IncludeLines.{includes_of}
-use Rattle.b2_facts.specs.declared.file_facts.Seen.TheVariants as seen
+use Rattle.b2_facts.specs.declared.file_facts.FileLook.TheVariants as seen
 use Rattle.b2_facts.specs.declared.file_facts.FileFacts.{FileFacts}
 use Rattle.b2_facts.specs.declared.fault.ReadFault.{ReadFault}
-use Rattle.b2_facts.specs.declared.scans.Scanned.{Scanned}
-use Rattle.b2_facts.specs.declared.scans.Scanned.TheVariants as scanned
+use Rattle.b2_facts.specs.declared.scans.ScanAnswer.{ScanAnswer}
+use Rattle.b2_facts.specs.declared.scans.ScanAnswer.TheVariants as scanned
 use Rattle.b2_facts.specs.Digests.{digest_of}
 use Rattle.b2_facts.specs.Facts.{Knowledge, with_file, IsFile, IsNumber, IsRead, path_at, file_at, WasRead}
 use Rattle.b2_facts.specs.Growth.{Grows, Learns, OfOne}
@@ -149,7 +149,7 @@ module _ (f g : Knowledge) (n : ℕ) (number : IsNumber f n) where
 -- ---- what a scan answers
 
 -- a read answers a scan
-pub read_scans : (disk : Option Disk) (lines : List LogLine) (f g : Knowledge) (n : ℕ) (r : Result Scanned ReadFault)
+pub read_scans : (disk : Option Disk) (lines : List LogLine) (f g : Knowledge) (n : ℕ) (r : Result ScanAnswer ReadFault)
     → IfOk r (λ answer. (path : List ℕ) (file : FileFacts) → IsFile g n path file → IsReadAnswer disk path file answer)
     → IfOk r (λ answer. (path : List ℕ) (file : FileFacts) → IsFile g n path file → IsScannedAs disk lines f n path file answer)
 read_scans disk lines f g n (Ok scanned.Known) h = λ path file is. absurd (h path file is)
@@ -164,7 +164,7 @@ read_before f g n file stamp was after (later, at, read) =
     (file, was, (read.0, subst (λ (x : FileFacts). x.includes ≡ Some read.0) (sym same) read.1))
 
 -- a scan of a file whose stamp was asked for
-pub scans_later : (disk later : Option Disk) (lines : List LogLine) (f g h : Knowledge) (n : ℕ) → later ≡ disk → (WasRead g n → WasRead f n) → (r : Result Scanned ReadFault)
+pub scans_later : (disk later : Option Disk) (lines : List LogLine) (f g h : Knowledge) (n : ℕ) → later ≡ disk → (WasRead g n → WasRead f n) → (r : Result ScanAnswer ReadFault)
     → IfOk r (λ answer. (path : List ℕ) (file : FileFacts) → IsFile h n path file → IsScannedAs later lines g n path file answer)
     → IfOk r (λ answer. (path : List ℕ) (file : FileFacts) → IsFile h n path file → IsScannedAs disk lines f n path file answer)
 scans_later disk later lines f g h n same before (Ok scanned.Known) a = λ path file is. elim (a path file is) [ inl read ↦ inl (before read) | inr told ↦ inr told ]
@@ -173,7 +173,7 @@ scans_later disk later lines f g h n same before (Ok scanned.Gone) a = λ path f
 scans_later disk later lines f g h n same before (Err fault) a = tt
 
 -- a file that is too big is so by the path that its number had before
-pub too_big_later : (disk later : Option Disk) (f g : Knowledge) (n most : ℕ) → later ≡ disk → Grows f g → (r : Result Scanned ReadFault)
+pub too_big_later : (disk later : Option Disk) (f g : Knowledge) (n most : ℕ) → later ≡ disk → Grows f g → (r : Result ScanAnswer ReadFault)
     → IfErr r (λ fault. IfSome later (λ (d : Disk). (path : List ℕ) → path_at g n ≡ Some path → IsTooBigFor most path d.now fault))
     → IfErr r (λ fault. IfSome disk (λ (d : Disk). (path : List ℕ) → path_at f n ≡ Some path → IsTooBigFor most path d.now fault))
 too_big_later disk later f g n most same grows (Ok answer) a = tt

@@ -12,24 +12,24 @@ use Rattle.b2_log.specs.Finding.{find_scan}
 use Rattle.jam_scan.specs.Places.{places}
 use Rattle.jam_scan.specs.IncludeLines.{includes_of}
 use Rattle.b2_facts.specs.Digests.{digest_of}
-use Rattle.b2_facts.specs.declared.file_facts.Seen.{Seen}
-use Rattle.b2_facts.specs.declared.file_facts.Seen.TheVariants as seen
+use Rattle.b2_facts.specs.declared.file_facts.FileLook.{FileLook}
+use Rattle.b2_facts.specs.declared.file_facts.FileLook.TheVariants as seen
 use Rattle.b2_facts.specs.declared.file_facts.FileFacts.{FileFacts}
 use Rattle.b2_facts.specs.declared.fault.ReadFault.{ReadFault}
 use Rattle.b2_facts.specs.declared.fault.ReadFault.TheVariants as faults
-use Rattle.b2_facts.specs.declared.scans.Scanned.{Scanned}
-use Rattle.b2_facts.specs.declared.scans.Scanned.TheVariants as scanned
+use Rattle.b2_facts.specs.declared.scans.ScanAnswer.{ScanAnswer}
+use Rattle.b2_facts.specs.declared.scans.ScanAnswer.TheVariants as scanned
 use Rattle.b2_facts.specs.Facts.{Knowledge, IsFile, IsRead, WasRead, path_at, file_at, dirs_at}
 
 -- ---- stamps
 
 -- what is seen of a file by its stamp
-abbrev pub seen_of : Option ℕ → Seen
+abbrev pub seen_of : Option ℕ → FileLook
 seen_of None = seen.Gone
 seen_of (Some stamp) = seen.Stands stamp
 
 -- the file was seen to stand
-abbrev pub is_seen : Seen → Bool
+abbrev pub is_seen : FileLook → Bool
 is_seen seen.Unasked = false
 is_seen seen.Gone = false
 is_seen (seen.Stands stamp) = true
@@ -128,7 +128,7 @@ pub record ReadsToScan (f : Knowledge) (number : ℕ) (lines : List LogLine) (be
   pub read : after ≡ after_read path before
 
 -- what a scan does to the host, by its answer: at most one read, and none of a file whose includes are known
-abbrev pub Scans : Knowledge → ℕ → List LogLine → Outside → Outside → Result Scanned ReadFault → Type 0
+abbrev pub Scans : Knowledge → ℕ → List LogLine → Outside → Outside → Result ScanAnswer ReadFault → Type 0
 Scans f number lines before after (Ok scanned.Known) = after ≡ before
 Scans f number lines before after (Ok (scanned.Read line)) = ReadsToScan f number lines before after
 Scans f number lines before after (Ok scanned.Gone) = (after ≡ before) ⊎ ReadsToScan f number lines before after
@@ -137,7 +137,7 @@ Scans f number lines before after (Err faults.OutOfMemory) = (after ≡ before) 
 Scans f number lines before after (Err (faults.TooBig size)) = ReadsToScan f number lines before after
 
 -- what is done to the host where a file is read to be scanned
-abbrev pub ReadsForAnswer : List ℕ → Outside → Outside → Result Scanned ReadFault → Type 0
+abbrev pub ReadsForAnswer : List ℕ → Outside → Outside → Result ScanAnswer ReadFault → Type 0
 ReadsForAnswer path before after (Ok scanned.Known) = ⊥
 ReadsForAnswer path before after (Ok (scanned.Read line)) = after ≡ after_read path before
 ReadsForAnswer path before after (Ok scanned.Gone) = after ≡ after_read path before
@@ -166,19 +166,19 @@ pub record IsGoneAtRead (disk : Option Disk) (path : List ℕ) (file : FileFacts
 
 -- What is known of a file once it was scanned: what it includes, as it was known before, by the log, or by the line where it was
 -- read; or that it is gone.
-abbrev pub IsScannedAs : Option Disk → List LogLine → Knowledge → ℕ → List ℕ → FileFacts → Scanned → Type 0
+abbrev pub IsScannedAs : Option Disk → List LogLine → Knowledge → ℕ → List ℕ → FileFacts → ScanAnswer → Type 0
 IsScannedAs disk lines f number path file scanned.Known = WasRead f number ⊎ IsToldByLog lines path file
 IsScannedAs disk lines f number path file (scanned.Read line) = IsLineOf line path file
 IsScannedAs disk lines f number path file scanned.Gone = (file.seen ≡ seen.Gone) ⊎ IsGoneAtRead disk path file
 
 -- what is known of a file once it was read
-abbrev pub IsReadAnswer : Option Disk → List ℕ → FileFacts → Scanned → Type 0
+abbrev pub IsReadAnswer : Option Disk → List ℕ → FileFacts → ScanAnswer → Type 0
 IsReadAnswer disk path file scanned.Known = ⊥
 IsReadAnswer disk path file (scanned.Read line) = IsLineOf line path file
 IsReadAnswer disk path file scanned.Gone = IsGoneAtRead disk path file
 
 -- by digests the digest of a file that was read to be scanned is known, so that it is not read again
-abbrev pub TakesDigest : Bool → FileFacts → Scanned → Type 0
+abbrev pub TakesDigest : Bool → FileFacts → ScanAnswer → Type 0
 TakesDigest by_digest file scanned.Known = ⊤
 TakesDigest by_digest file (scanned.Read line) = by_digest ≡ true → (digest : List ℕ) × (file.digest ≡ Some digest)
 TakesDigest by_digest file scanned.Gone = ⊤

@@ -10,7 +10,7 @@ use Rattle.b2_plan.specs.Plans.{maker_of}
 use Rattle.b2_plan.specs.Sources.{Include, IsInRoots}
 use Rattle.b2_log.specs.Good.{IsDigest}
 use Rattle.jam_scan.specs.Scans.{is_scanned}
-use Rattle.b2_facts.specs.declared.file_facts.Seen.TheVariants as seen
+use Rattle.b2_facts.specs.declared.file_facts.FileLook.TheVariants as seen
 use Rattle.b2_facts.specs.declared.file_facts.FileFacts.{FileFacts}
 
 -- numbers of files for pairs of numbers

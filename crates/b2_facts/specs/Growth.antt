@@ -1,13 +1,13 @@
 -- How facts grow: nothing that is known is forgotten or changed.
 use Rattle.std.specs.Prelude.{◌≡◌, ◌⊎◌, ℕ, false, List, Option, Some, None, ⊤}
 use Rattle.b2_plan.specs.declared.step.Step.{Step}
-use Rattle.b2_facts.specs.declared.file_facts.Seen.{Seen}
-use Rattle.b2_facts.specs.declared.file_facts.Seen.TheVariants as seen
+use Rattle.b2_facts.specs.declared.file_facts.FileLook.{FileLook}
+use Rattle.b2_facts.specs.declared.file_facts.FileLook.TheVariants as seen
 use Rattle.b2_facts.specs.declared.file_facts.FileFacts.{FileFacts}
 use Rattle.b2_facts.specs.Facts.{Knowledge, path_at, file_at, dirs_at, found_at, IsRead, WasRead, IsBlank, IsAbout}
 
 -- what was seen stays
-abbrev pub StaysSeen : Seen → Seen → Type 0
+abbrev pub StaysSeen : FileLook → FileLook → Type 0
 StaysSeen seen.Unasked later = ⊤
 StaysSeen seen.Gone later = later ≡ seen.Gone
 StaysSeen (seen.Stands stamp) later = later ≡ seen.Stands stamp

@@ -10,8 +10,8 @@ use Rattle.b2_log.specs.declared.line.LogLine.{LogLine}
 use Rattle.b2_log.specs.Finding.{find_scan}
 use Rattle.jam_scan.specs.Scans.{scan_of}
 use Rattle.jam_scan.specs.Places.{places}
-use Rattle.b2_facts.specs.declared.file_facts.Seen.{Seen}
-use Rattle.b2_facts.specs.declared.file_facts.Seen.TheVariants as seen
+use Rattle.b2_facts.specs.declared.file_facts.FileLook.{FileLook}
+use Rattle.b2_facts.specs.declared.file_facts.FileLook.TheVariants as seen
 use Rattle.b2_facts.specs.declared.file_facts.FileFacts.{FileFacts}
 use Rattle.b2_facts.specs.Digests.{digest_of}
 use Rattle.b2_facts.specs.Facts.{Knowledge, IsFile, IsAbout, path_at, dirs_at, found_at}
@@ -28,7 +28,7 @@ abbrev pub KeepsSources : Build → Folder → Type 0
 KeepsSources b now = (path : List ℕ) → (IsInRoots b.roots path → ⊥) → now path ≡ b.folder path
 
 -- what was seen of a file is so, by its time stamp now
-abbrev pub IsSeen : Seen → Option ℕ → Type 0
+abbrev pub IsSeen : FileLook → Option ℕ → Type 0
 IsSeen seen.Unasked stamp = ⊤
 IsSeen seen.Gone stamp = stamp ≡ None
 IsSeen (seen.Stands known) stamp = stamp ≡ Some known

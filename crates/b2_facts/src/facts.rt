@@ -1,5 +1,5 @@
 //! What is known of files.
-use crate::file_facts::{FileFacts, Seen};
+use crate::file_facts::{FileFacts, FileLook};
 use crate::found_map::FoundMap;
 use crate::list_table::ListTable;
 use b2_base::fault::OutOfMemory;
@@ -62,7 +62,7 @@ impl Facts {
     ghost use Rattle.b2_plan.specs.declared.step.Step.{Step};
     ghost use Rattle.b2_log.specs.Good.{IsDigest};
     ghost use Rattle.b2_facts.specs.declared.file_facts.FileFacts.{FileFacts};
-    ghost use Rattle.b2_facts.specs.declared.file_facts.Seen.TheVariants as seen;
+    ghost use Rattle.b2_facts.specs.declared.file_facts.FileLook.TheVariants as seen;
     ghost use Rattle.b2_facts.specs.Facts.{no_facts, with_file, with_list, with_found, IsNumber, IsList, IsAbout, path_at, file_at, dirs_at, found_at};
     ghost use Rattle.b2_facts.specs.Growth.{Learns, OfNone, OfOne};
     ghost use Rattle.b2_facts.specs.Truth.{AreTrue, StaysTrue};
@@ -178,7 +178,7 @@ impl Facts {
     }
 
     /// Tells what was seen of a file.
-    pub(crate) fn set_seen(&mut self, number: u32, seen: Seen)
+    pub(crate) fn set_seen(&mut self, number: u32, seen: FileLook)
         requires { IsNumber self.old number }
         ensures { (file : FileFacts) → file_at self.old number ≡ Some file
             → self.new ≡ with_file self.old number (record file { seen = seen }) }
@@ -227,7 +227,7 @@ impl Facts {
             → self.new ≡ with_file self.old number (record file { seen = seen.Unasked; digest = None }) }
     {
         let file = &mut self.files[number as usize];
-        file.seen = Seen::Unasked;
+        file.seen = FileLook::Unasked;
         file.digest = None;
     }
 

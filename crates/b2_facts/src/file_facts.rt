@@ -8,7 +8,7 @@ use jam_scan::scan::is_scanned;
 
 /// What was seen of a file.
 #[derive(Clone, Copy, Debug)]
-pub enum Seen {
+pub enum FileLook {
     /// It was not asked for.
     Unasked,
     /// No file stands.
@@ -26,7 +26,7 @@ pub struct FileFacts {
     /// Whether it is scanned for includes.
     pub scanned: bool,
     /// What was seen of it.
-    pub seen: Seen,
+    pub seen: FileLook,
     /// What it includes, where it was scanned or the log tells.
     pub includes: Option<IncludeList>,
     /// Its digest, 64 lower-case hexadecimal digits, where it was taken or the log tells.
@@ -61,7 +61,7 @@ impl FileFacts {
             maker: plan.maker(path),
             rooted: is_in_roots(plan.roots.as_slice(), path),
             scanned: is_scanned(path),
-            seen: Seen::Unasked,
+            seen: FileLook::Unasked,
             includes: None,
             digest: None,
         }

@@ -7,7 +7,7 @@ ghost use Rattle.b2_plan.specs.declared.step.Step.{Step};
 ghost use Rattle.b2_plan.specs.Sources.{Build};
 ghost use Rattle.jam_scan.specs.IncludeLines.{includes_of};
 ghost use Rattle.b2_facts.specs.declared.file_facts.FileFacts.{FileFacts};
-ghost use Rattle.b2_facts.specs.declared.file_facts.Seen.TheVariants as seen;
+ghost use Rattle.b2_facts.specs.declared.file_facts.FileLook.TheVariants as seen;
 ghost use Rattle.b2_facts.specs.Facts.{IsNumber, IsFile, path_at, file_at, with_file};
 ghost use Rattle.b2_facts.specs.Growth.{Learns, OfOne};
 ghost use Rattle.b2_facts.specs.Truth.{StaysTrue, StaysTrueOf, ScansTell};
@@ -32,7 +32,7 @@ pub const SCAN_LIMIT: u64 = 16_777_216;
 
 /// What a scan answers.
 #[derive(Drop)]
-pub enum Scanned {
+pub enum ScanAnswer {
     /// What the file includes is known, and it was not read: it was known before, or the log tells.
     Known,
     /// The file was read, and this line is to be noted in the log before the next call on the host.
@@ -147,7 +147,7 @@ impl Facts {
         number: u32,
         stamp: u64,
         by_digest: bool,
-    ) -> Result<Scanned, ReadFault>
+    ) -> Result<ScanAnswer, ReadFault>
         requires number { IsNumber self.old number }
         requires unread { (file : FileFacts) → file_at self.old number ≡ Some file → IsToRead file stamp }
         ensures effect { (path : List ℕ) → path_at self.old number ≡ Some path
@@ -167,11 +167,11 @@ impl Facts {
         match answer {
             ReadAnswer::Bytes(bytes) => {
                 let line = self.keep_bytes(alloc, number, stamp, bytes.as_slice(), by_digest)?;
-                Ok(Scanned::Read(line))
+                Ok(ScanAnswer::Read(line))
             }
             ReadAnswer::Missing => {
                 self.set_includes(number, IncludeList::new(alloc));
-                Ok(Scanned::Gone)
+                Ok(ScanAnswer::Gone)
             }
             ReadAnswer::TooBig { size } => Err(ReadFault::TooBig { size }),
         }
@@ -186,7 +186,7 @@ impl Facts {
         number: u32,
         stamp: u64,
         by_digest: bool,
-    ) -> Result<Scanned, ReadFault>
+    ) -> Result<ScanAnswer, ReadFault>
         requires number { IsNumber self.old number }
         requires unread { (file : FileFacts) → file_at self.old number ≡ Some file → IsToRead file stamp }
         ensures effect { Scans self.new number log.now.lines (F.outside files.old) (F.outside files.new) result }
@@ -205,7 +205,7 @@ impl Facts {
             None => self.read_includes(alloc, files, number, stamp, by_digest),
             Some(line) => {
                 self.keep_line(alloc, number, line)?;
-                Ok(Scanned::Known)
+                Ok(ScanAnswer::Known)
             }
         }
     }
@@ -220,7 +220,7 @@ impl Facts {
         log: &Log,
         number: u32,
         by_digest: bool,
-    ) -> Result<Scanned, ReadFault>
+    ) -> Result<ScanAnswer, ReadFault>
         requires number { IsNumber self.old number }
         requires scanned { (file : FileFacts) → file_at self.old number ≡ Some file → file.scanned ≡ true }
         ensures effect { Scans self.new number log.now.lines (F.outside files.old) (F.outside files.new) result }
@@ -236,11 +236,11 @@ impl Facts {
             (λ disk. (path : List ℕ) → path_at self.old number ≡ Some path → IsTooBigFor 16777216 path disk.now fault)) }
     {
         if self.file(number).includes.is_some() {
-            return Ok(Scanned::Known);
+            return Ok(ScanAnswer::Known);
         }
         let seen = self.stamp(files, number)?;
         match seen {
-            None => Ok(Scanned::Gone),
+            None => Ok(ScanAnswer::Gone),
             Some(stamp) => self.scan_standing(alloc, files, log, number, stamp, by_digest),
         }
     }

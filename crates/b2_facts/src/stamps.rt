@@ -4,24 +4,24 @@ ghost use Rattle.std.specs.Option.{IfSome};
 ghost use Rattle.b2_host.specs.Outside.{Looks};
 ghost use Rattle.b2_plan.specs.declared.step.Step.{Step};
 ghost use Rattle.b2_facts.specs.declared.file_facts.FileFacts.{FileFacts};
-ghost use Rattle.b2_facts.specs.declared.file_facts.Seen.TheVariants as seen;
+ghost use Rattle.b2_facts.specs.declared.file_facts.FileLook.TheVariants as seen;
 ghost use Rattle.b2_facts.specs.Facts.{IsNumber, file_at, with_file};
 ghost use Rattle.b2_facts.specs.Growth.{Learns, OfNone, OfOne};
 ghost use Rattle.b2_facts.specs.Truth.{StaysTrue};
 ghost use Rattle.b2_facts.specs.Asks.{seen_of, IsToldGiven};
 
 use crate::facts::Facts;
-use crate::file_facts::Seen;
+use crate::file_facts::FileLook;
 use b2_host::fault::Failed;
 use b2_host::files::Files;
 
 /// What is seen of a file by its stamp.
-fn seen_of(stamp: Option<u64>) -> Seen
+fn seen_of(stamp: Option<u64>) -> FileLook
     ensures { result ≡ seen_of stamp }
 {
     match stamp {
-        None => Seen::Gone,
-        Some(stamp) => Seen::Stands(stamp),
+        None => FileLook::Gone,
+        Some(stamp) => FileLook::Stands(stamp),
     }
 }
 
@@ -56,9 +56,9 @@ impl Facts {
         ensures err { OnErr result (self.new ≡ self.old) }
     {
         match self.file(number).seen {
-            Seen::Gone => Ok(None),
-            Seen::Stands(stamp) => Ok(Some(stamp)),
-            Seen::Unasked => self.ask_stamp(files, number),
+            FileLook::Gone => Ok(None),
+            FileLook::Stands(stamp) => Ok(Some(stamp)),
+            FileLook::Unasked => self.ask_stamp(files, number),
         }
     }
 

@@ -8,7 +8,7 @@ use b2_host::fault::{Failed, IoFault};
 
 /// Why work on files stopped.
 #[derive(Clone, Copy, Debug)]
-pub enum Stop {
+pub enum FilesStop {
     /// The host failed.
     Host,
     /// No memory was left.
@@ -17,49 +17,49 @@ pub enum Stop {
     TooBig { number: u32, size: u64 },
 }
 
-impl From<Failed> for Stop {
+impl From<Failed> for FilesStop {
     ghost use Rattle.std.specs.Prelude.{◌≡◌};
-    ghost use Rattle.b2_facts.specs.declared.stop.Stop.TheVariants as stops;
+    ghost use Rattle.b2_facts.specs.declared.stop.FilesStop.TheVariants as stops;
 
     ghost from_gives = { λ _ stop. stop ≡ stops.Host };
 
-    fn from(_error: Failed) -> Stop {
-        Stop::Host
+    fn from(_error: Failed) -> FilesStop {
+        FilesStop::Host
     }
 }
 
-impl From<OutOfMemory> for Stop {
+impl From<OutOfMemory> for FilesStop {
     ghost use Rattle.std.specs.Prelude.{◌≡◌};
-    ghost use Rattle.b2_facts.specs.declared.stop.Stop.TheVariants as stops;
+    ghost use Rattle.b2_facts.specs.declared.stop.FilesStop.TheVariants as stops;
 
     ghost from_gives = { λ _ stop. stop ≡ stops.OutOfMemory };
 
-    fn from(_error: OutOfMemory) -> Stop {
-        Stop::OutOfMemory
+    fn from(_error: OutOfMemory) -> FilesStop {
+        FilesStop::OutOfMemory
     }
 }
 
-impl From<IoFault> for Stop {
+impl From<IoFault> for FilesStop {
     ghost use Rattle.std.specs.Prelude.{◌≡◌};
     ghost use Rattle.b2_facts.specs.Stops.{stop_of_io};
 
     ghost from_gives = { λ error stop. stop ≡ stop_of_io error };
 
-    fn from(error: IoFault) -> Stop {
+    fn from(error: IoFault) -> FilesStop {
         match error {
-            IoFault::Failed => Stop::Host,
-            IoFault::OutOfMemory => Stop::OutOfMemory,
+            IoFault::Failed => FilesStop::Host,
+            IoFault::OutOfMemory => FilesStop::OutOfMemory,
         }
     }
 }
 
 /// What work stops with where the file with a number was not read.
-pub fn stop_of_read(fault: ReadFault, number: u32) -> Stop
+pub fn stop_of_read(fault: ReadFault, number: u32) -> FilesStop
     ensures { result ≡ stop_of_read fault number }
 {
     match fault {
-        ReadFault::Failed => Stop::Host,
-        ReadFault::OutOfMemory => Stop::OutOfMemory,
-        ReadFault::TooBig { size } => Stop::TooBig { number, size },
+        ReadFault::Failed => FilesStop::Host,
+        ReadFault::OutOfMemory => FilesStop::OutOfMemory,
+        ReadFault::TooBig { size } => FilesStop::TooBig { number, size },
     }
 }

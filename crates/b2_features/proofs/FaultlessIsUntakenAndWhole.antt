@@ -6,13 +6,13 @@ use Rattle.std.specs.Str.{bytes_eq}
 use Rattle.b2_features.specs.declared.attribute.Attribute.TheVariants.{Implicit, Free, Optional}
 use Rattle.b2_features.specs.declared.fault.FeatureFault.TheVariants.{Twice, BadValue}
 use Rattle.b2_features.specs.Attributes.{has}
-use Rattle.b2_features.specs.Table.{Declared, declared, is_implicit_in, is_whole}
+use Rattle.b2_features.specs.Table.{DeclaredFeature, declared, is_implicit_in, is_whole}
 use Rattle.b2_features.specs.Faults.{is_name, is_bad_name, is_declared, twice_value, twice_word, bad_word, feature_fault, is_implicit}
 use Rattle.b2_features.proofs.TextsAreSoughtInLists.{none_passes}
 use Rattle.b2_features.proofs.TablesFindWhatWasAdded.{first_none}
 
 -- where no value of some is there twice, none is taken
-none_taken : (table : List Declared) (before values : List (List ℕ)) → twice_value table before values ≡ None → find (is_implicit table) values ≡ None
+none_taken : (table : List DeclaredFeature) (before values : List (List ℕ)) → twice_value table before values ≡ None → find (is_implicit table) values ≡ None
 none_taken table before [] e = refl
 none_taken table before (x ∷ xs) e = go (is_implicit table x) (list_any (bytes_eq x) before) e (none_taken table (before ++ x ∷ []) xs)
   where
@@ -22,7 +22,7 @@ none_taken table before (x ∷ xs) e = go (is_implicit table x) (list_any (bytes
     go false false h more = more h
 
 -- where a declaration has no fault, no implicit value of it is taken
-pub untaken : (table : List Declared) (name : List ℕ) (values attributes : List (List ℕ)) → feature_fault table name values attributes ≡ None → (q : List ℕ) → is_implicit_in q (declared name values attributes) ≡ true → is_implicit table q ≡ false
+pub untaken : (table : List DeclaredFeature) (name : List ℕ) (values attributes : List (List ℕ)) → feature_fault table name values attributes ≡ None → (q : List ℕ) → is_implicit_in q (declared name values attributes) ≡ true → is_implicit table q ≡ false
 untaken table name values attributes sound q here =
     go (is_declared table name) (has Implicit attributes) (first_none Twice (twice_word table name values attributes) _ sound) here
   where
@@ -32,7 +32,7 @@ untaken table name values attributes sound q here =
     go false false t h = cc
 
 -- where a declaration has no fault, a feature that is neither free nor optional has a value
-pub whole_declared : (table : List Declared) (name : List ℕ) (values attributes : List (List ℕ)) → feature_fault table name values attributes ≡ None → is_whole (declared name values attributes) ≡ true
+pub whole_declared : (table : List DeclaredFeature) (name : List ℕ) (values attributes : List (List ℕ)) → feature_fault table name values attributes ≡ None → is_whole (declared name values attributes) ≡ true
 whole_declared table name (value ∷ more) attributes sound = or_true (has Free attributes || has Optional attributes)
   where
     or_true : (b : Bool) → (b || true) ≡ true

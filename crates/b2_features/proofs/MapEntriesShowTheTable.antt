@@ -11,14 +11,14 @@ use Rattle.std.proofs.lemmas.List.{map-append}
 use Rattle.std.proofs.lemmas.List.Folds.{list_all-append}
 use Rattle.b2_features.specs.declared.feature.Feature.{Feature}
 use Rattle.std.specs.Borrow.{Bor}
-use Rattle.b2_features.specs.Table.{Declared, HasDistinctNames, seen, is_whole, is_named, feature_of, place_of, implicit_of, is_implicit_in, with_parts, composed}
+use Rattle.b2_features.specs.Table.{DeclaredFeature, HasDistinctNames, seen, is_whole, is_named, feature_of, place_of, implicit_of, is_implicit_in, with_parts, composed}
 use Rattle.b2_features.specs.Faults.{is_implicit}
 use Rattle.b2_features.specs.Index.{IsIndexed}
 use Rattle.b2_features.proofs.ListSearchesAgree.{option_map-cond, position-map, find-at_position, find-none, position-push, position-none, keys-set_value, values-set_value}
 use Rattle.b2_features.proofs.TablesFindWhatWasAdded.{or_none}
 
 -- the table that entries show
-abbrev pub shown : List (String Global × Feature) → List Declared
+abbrev pub shown : List (String Global × Feature) → List DeclaredFeature
 shown es = map (λ e. seen e.1) es
 
 abbrev pub key_texts : List (String Global × Feature) → List (List ℕ)
@@ -56,11 +56,11 @@ pub seen_now : (r : Option (Bor Feature)) → option_map (λ f. seen f.now) r �
 seen_now None = refl
 seen_now (Some f) = refl
 
-abbrev name_in : Option Declared → Option (List ℕ)
+abbrev name_in : Option DeclaredFeature → Option (List ℕ)
 name_in o = option_map (λ f. f.name) o
 
 -- the feature to which an implicit value leads
-pub implicit_at : (value : List ℕ) (es : List (String Global × Feature)) (implicit : List (List ℕ × ℕ)) → IsIndexed es implicit → (i : ℕ) (f : Declared) → lookup (bytes_eq value) implicit ≡ Some i → slice_get (shown es) i ≡ Some f → Some f.name ≡ implicit_of (shown es) value
+pub implicit_at : (value : List ℕ) (es : List (String Global × Feature)) (implicit : List (List ℕ × ℕ)) → IsIndexed es implicit → (i : ℕ) (f : DeclaredFeature) → lookup (bytes_eq value) implicit ≡ Some i → slice_get (shown es) i ≡ Some f → Some f.name ≡ implicit_of (shown es) value
 implicit_at value es implicit indexed i f at read = sym (ap name_in (find-at_position (is_implicit_in value) (shown es) i (sym (indexed.places value) ∙ at) ∙ read))
 
 -- a value that leads nowhere
@@ -70,7 +70,7 @@ implicit_nowhere value es implicit indexed none = sym (ap name_in (find-none (is
 -- ---- a feature that takes the place of another
 
 -- what a feature shows but for its components
-abbrev pub bare : Declared → Declared
+abbrev pub bare : DeclaredFeature → DeclaredFeature
 bare f = record f { parts = [] }
 
 bare_shown : (es : List (String Global × Feature)) → map (λ e. bare (seen e.1)) es ≡ map bare (shown es)
@@ -83,7 +83,7 @@ same_places value es fs same =
     ∙ ap (position (is_implicit_in value)) (sym (bare_shown es) ∙ same ∙ bare_shown fs)
     ∙ position-map (is_implicit_in value) bare (shown fs)
 
-whole_bare : (fs : List Declared) → list_all is_whole fs ≡ list_all is_whole (map bare fs)
+whole_bare : (fs : List DeclaredFeature) → list_all is_whole fs ≡ list_all is_whole (map bare fs)
 whole_bare [] = refl
 whole_bare (f ∷ fs) = ap (λ b. is_whole f && b) (whole_bare fs)
 
@@ -143,7 +143,7 @@ absent_key name es keys none = go (lookup (λ k. bytes_eq name (string_bytes k))
     go None e = refl
     go (Some f) e = cc
 
-nothing : (o : Option Declared) → is_some (option_map (λ f. f.name) o) ≡ false → o ≡ None
+nothing : (o : Option DeclaredFeature) → is_some (option_map (λ f. f.name) o) ≡ false → o ≡ None
 nothing None e = refl
 nothing (Some f) e = cc
 

@@ -10,7 +10,7 @@ use Rattle.std.proofs.lemmas.Map.Text.{is_eq-slice_cmp}
 use Rattle.std.proofs.lemmas.List.{take_more}
 use Rattle.std.proofs.lemmas.List.Folds.{list_any-append}
 use Rattle.std.proofs.Math.Seq.{drop-cons}
-use Rattle.b2_features.specs.Table.{Declared}
+use Rattle.b2_features.specs.Table.{DeclaredFeature}
 use Rattle.b2_features.specs.Faults.{twice_value, is_implicit}
 
 -- what a map has at a text after a text was given a value
@@ -28,25 +28,25 @@ known_put {V} m text value other = ap is_some (get_put m text value other) ∙ g
     go false (Some v) = refl
 
 -- the values up to a place are known, and no value so far is there twice
-pub record AreApart (table : List Declared) (values : List (List ℕ)) (place : ℕ) (known : List ℕ → Bool) : Type 0 where
+pub record AreApart (table : List DeclaredFeature) (values : List (List ℕ)) (place : ℕ) (known : List ℕ → Bool) : Type 0 where
   pub rest : twice_value table (take place values) (drop place values) ≡ twice_value table [] values
   pub earlier : (q : List ℕ) → known q ≡ list_any (bytes_eq q) (take place values)
 
-next_rest : (table : List Declared) (values : List (List ℕ)) (i : ℕ) (x : List ℕ) → i < length values → x ≡ get_or values i x → drop i values ≡ x ∷ drop (i + 1) values
+next_rest : (table : List DeclaredFeature) (values : List (List ℕ)) (i : ℕ) (x : List ℕ) → i < length values → x ≡ get_or values i x → drop i values ≡ x ∷ drop (i + 1) values
 next_rest table values i x within is = drop-cons values i x within ∙ ap₂ (λ (y : List ℕ) (n : ℕ). y ∷ drop n values) (sym is) (sym (add-one i))
 
 next_take : (values : List (List ℕ)) (i : ℕ) (x : List ℕ) → i < length values → x ≡ get_or values i x → take (i + 1) values ≡ take i values ++ x ∷ []
 next_take values i x within is = take_more values i x within ∙ ap (λ y. take i values ++ y ∷ []) (sym is)
 
 -- the value at a place decides, or the values after it
-decided : (table : List Declared) (values : List (List ℕ)) (i : ℕ) (x : List ℕ) (known : List ℕ → Bool) (b : Bool) → i < length values → x ≡ get_or values i x → AreApart table values i known → b ≡ (is_implicit table x || known x)
+decided : (table : List DeclaredFeature) (values : List (List ℕ)) (i : ℕ) (x : List ℕ) (known : List ℕ → Bool) (b : Bool) → i < length values → x ≡ get_or values i x → AreApart table values i known → b ≡ (is_implicit table x || known x)
     → cond b (Some x) (twice_value table (take i values ++ x ∷ []) (drop (i + 1) values)) ≡ twice_value table [] values
 decided table values i x known b within is apart e =
     ap (λ t. cond t (Some x) (twice_value table (take i values ++ x ∷ []) (drop (i + 1) values))) (e ∙ ap (λ k. is_implicit table x || k) (apart.earlier x))
     ∙ sym (ap (twice_value table (take i values)) (next_rest table values i x within is)) ∙ apart.rest
 
 -- one more value that is not there
-pub apart_next : (table : List Declared) (values : List (List ℕ)) (i : ℕ) (x : List ℕ) (known new : List ℕ → Bool) → i < length values → x ≡ get_or values i x → AreApart table values i known → false ≡ (is_implicit table x || known x) → ((q : List ℕ) → new q ≡ (known q || bytes_eq q x))
+pub apart_next : (table : List DeclaredFeature) (values : List (List ℕ)) (i : ℕ) (x : List ℕ) (known new : List ℕ → Bool) → i < length values → x ≡ get_or values i x → AreApart table values i known → false ≡ (is_implicit table x || known x) → ((q : List ℕ) → new q ≡ (known q || bytes_eq q x))
     → AreApart table values (i + 1) new
 apart_next table values i x known new within is apart e more = record {
   rest = ap (λ before. twice_value table before (drop (i + 1) values)) (next_take values i x within is) ∙ decided table values i x known false within is apart e;
@@ -58,7 +58,7 @@ apart_next table values i x known new within is apart e more = record {
     one false = refl
 
 -- no value at all is known at the start
-pub apart_none : (table : List Declared) (values : List (List ℕ)) (known : List ℕ → Bool) → ((q : List ℕ) → known q ≡ false) → AreApart table values 0 known
+pub apart_none : (table : List DeclaredFeature) (values : List (List ℕ)) (known : List ℕ → Bool) → ((q : List ℕ) → known q ≡ false) → AreApart table values 0 known
 apart_none table values known none = record {
   rest = refl;
   earlier = none;

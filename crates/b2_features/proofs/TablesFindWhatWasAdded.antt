@@ -6,7 +6,7 @@ use Rattle.std.specs.Map.{lookup}
 use Rattle.std.specs.Str.{bytes_eq}
 use Rattle.std.specs.Cmp.Lexicographic.{nat_list_eq_equiv}
 use Rattle.std.proofs.lemmas.Slice.Eq.{bytes_eq-Decides}
-use Rattle.b2_features.specs.Table.{Declared, is_named, feature_of, place_of, implicit_of, is_implicit_in, parts_of, with_parts, composed}
+use Rattle.b2_features.specs.Table.{DeclaredFeature, is_named, feature_of, place_of, implicit_of, is_implicit_in, parts_of, with_parts, composed}
 use Rattle.b2_features.specs.Faults.{is_declared, is_composed, unknown_in, unknown_word, bad_part, conflict_word, feature_fault, compose_fault, twice_word, bad_word, is_implicit}
 use Rattle.b2_features.specs.declared.fault.FeatureFault.TheVariants.{Twice, Unknown, BadValue, ComposeConflict}
 use Rattle.b2_features.specs.Finding.{words_of, FindsOneMore, FindsParts}
@@ -34,15 +34,15 @@ none_of None e = refl
 none_of (Some x) e = cc
 
 -- what an implicit value leads to, by the new feature
-implicit-push : (table : List Declared) (f : Declared) (value : List ℕ) → implicit_of (table ++ f ∷ []) value ≡ option_or (implicit_of table value) (cond (is_implicit_in value f) (Some f.name) None)
+implicit-push : (table : List DeclaredFeature) (f : DeclaredFeature) (value : List ℕ) → implicit_of (table ++ f ∷ []) value ≡ option_or (implicit_of table value) (cond (is_implicit_in value f) (Some f.name) None)
 implicit-push table f value = ap (option_map (λ g. g.name)) (find-push (is_implicit_in value) table f) ∙ go (find (is_implicit_in value) table) (is_implicit_in value f)
   where
-    go : (o : Option Declared) (b : Bool) → option_map (λ g. g.name) (option_or o (cond b (Some f) None)) ≡ option_or (option_map (λ g. g.name) o) (cond b (Some f.name) None)
+    go : (o : Option DeclaredFeature) (b : Bool) → option_map (λ g. g.name) (option_or o (cond b (Some f) None)) ≡ option_or (option_map (λ g. g.name) o) (cond b (Some f.name) None)
     go None true = refl
     go None false = refl
     go (Some g) b = refl
 
-pub finds_push : (table : List Declared) (f : Declared) → feature_of table f.name ≡ None → ((value : List ℕ) → is_implicit_in value f ≡ true → is_implicit table value ≡ false) → FindsOneMore table (table ++ f ∷ []) f
+pub finds_push : (table : List DeclaredFeature) (f : DeclaredFeature) → feature_of table f.name ≡ None → ((value : List ℕ) → is_implicit_in value f ≡ true → is_implicit table value ≡ false) → FindsOneMore table (table ++ f ∷ []) f
 finds_push table f absent untaken = record {
   by_name = find-push (is_named f.name) table f ∙ ap (λ o. option_or o (cond (bytes_eq f.name f.name) (Some f) None)) absent ∙ ap (λ b. cond b (Some f) None) (text_itself f.name);
   place = position-push (is_named f.name) table f ∙ ap (λ o. option_or o (cond (bytes_eq f.name f.name) (Some (length table)) None)) (position-none (is_named f.name) table absent) ∙ ap (λ b. cond b (Some (length table)) None) (text_itself f.name);
@@ -63,7 +63,7 @@ second_none None p e = e
 second_none (Some x) p e = cc
 
 -- where a declaration has no fault, its name is new
-pub undeclared : (table : List Declared) (name : List ℕ) (values attributes : List (List ℕ)) → feature_fault table name values attributes ≡ None → feature_of table name ≡ None
+pub undeclared : (table : List DeclaredFeature) (name : List ℕ) (values attributes : List (List ℕ)) → feature_fault table name values attributes ≡ None → feature_of table name ≡ None
 undeclared table name values attributes sound = none_of (feature_of table name) (go (is_declared table name) _ (first_none Twice (twice_word table name values attributes) (option_map BadValue (bad_word name values attributes)) sound))
   where
     go : (there : Bool) (o : Option (List ℕ)) → cond there (Some name) o ≡ None → there ≡ false
@@ -72,7 +72,7 @@ undeclared table name values attributes sound = none_of (feature_of table name) 
 
 -- ---- the components of one value more
 
-composed_here : (table : List Declared) (name value : List ℕ) (parts : List (List ℕ × List ℕ)) → feature_of (composed table name value parts) name ≡ option_map (λ f. with_parts f value parts) (feature_of table name)
+composed_here : (table : List DeclaredFeature) (name value : List ℕ) (parts : List (List ℕ × List ℕ)) → feature_of (composed table name value parts) name ≡ option_map (λ f. with_parts f value parts) (feature_of table name)
 composed_here [] name value parts = refl
 composed_here (f ∷ more) name value parts = go (bytes_eq name f.name) refl (composed_here more name value parts)
   where
@@ -81,7 +81,7 @@ composed_here (f ∷ more) name value parts = go (bytes_eq name f.name) refl (co
     go true e later = ap (λ b. cond b (Some (with_parts f value parts)) (feature_of more name)) e
     go false e later = ap (λ b. cond b (Some f) (feature_of (composed more name value parts) name)) e ∙ later
 
-composed_other : (table : List Declared) (name value : List ℕ) (parts : List (List ℕ × List ℕ)) (other : List ℕ) → bytes_eq other name ≡ false → feature_of (composed table name value parts) other ≡ feature_of table other
+composed_other : (table : List DeclaredFeature) (name value : List ℕ) (parts : List (List ℕ × List ℕ)) (other : List ℕ) → bytes_eq other name ≡ false → feature_of (composed table name value parts) other ≡ feature_of table other
 composed_other [] name value parts other apart = refl
 composed_other (f ∷ more) name value parts other apart = go (bytes_eq name f.name) refl (composed_other more name value parts other apart)
   where
@@ -93,7 +93,7 @@ composed_other (f ∷ more) name value parts other apart = go (bytes_eq name f.n
     go false e later = ap (cond (bytes_eq other f.name) (Some f)) later
 
 -- a feature with further components keeps its name, its values and its attributes, so that it stands where it stood
-composed_names : (table : List Declared) (name value : List ℕ) (parts : List (List ℕ × List ℕ)) → map (λ f. f.name) (composed table name value parts) ≡ map (λ f. f.name) table
+composed_names : (table : List DeclaredFeature) (name value : List ℕ) (parts : List (List ℕ × List ℕ)) → map (λ f. f.name) (composed table name value parts) ≡ map (λ f. f.name) table
 composed_names [] name value parts = refl
 composed_names (f ∷ more) name value parts = go (bytes_eq name f.name) (composed_names more name value parts)
   where
@@ -101,12 +101,12 @@ composed_names (f ∷ more) name value parts = go (bytes_eq name f.name) (compos
     go true later = refl
     go false later = ap (λ names. f.name ∷ names) later
 
-composed_place : (table : List Declared) (name value : List ℕ) (parts : List (List ℕ × List ℕ)) (other : List ℕ) → place_of (composed table name value parts) other ≡ place_of table other
+composed_place : (table : List DeclaredFeature) (name value : List ℕ) (parts : List (List ℕ × List ℕ)) (other : List ℕ) → place_of (composed table name value parts) other ≡ place_of table other
 composed_place table name value parts other =
     sym (position-map (bytes_eq other) (λ f. f.name) (composed table name value parts)) ∙ ap (position (bytes_eq other)) (composed_names table name value parts)
     ∙ position-map (bytes_eq other) (λ f. f.name) table
 
-composed_implicit : (table : List Declared) (name value : List ℕ) (parts : List (List ℕ × List ℕ)) (word : List ℕ) → implicit_of (composed table name value parts) word ≡ implicit_of table word
+composed_implicit : (table : List DeclaredFeature) (name value : List ℕ) (parts : List (List ℕ × List ℕ)) (word : List ℕ) → implicit_of (composed table name value parts) word ≡ implicit_of table word
 composed_implicit [] name value parts word = refl
 composed_implicit (f ∷ more) name value parts word = go (bytes_eq name f.name) (is_implicit_in word f) refl (composed_implicit more name value parts word)
   where
@@ -134,7 +134,7 @@ lookup-push {X} p (e ∷ es) k x = go (p e.0) (lookup-push p es k x)
     go false more = more
 
 -- where a value may be composed, its feature is there and it has no components
-composable : (table : List Declared) (name value : List ℕ) (parts : List (List ℕ × List ℕ)) → compose_fault table name value parts ≡ None → (f : Declared) → feature_of table name ≡ Some f → parts_of f value ≡ None
+composable : (table : List DeclaredFeature) (name value : List ℕ) (parts : List (List ℕ × List ℕ)) → compose_fault table name value parts ≡ None → (f : DeclaredFeature) → feature_of table name ≡ Some f → parts_of f value ≡ None
 composable table name value parts sound f found =
     none_of (parts_of f value) (sym (ap (λ o. option_map_or (λ g. is_some (parts_of g value)) o false) found) ∙ go (is_composed table name value) _ conflict)
   where
@@ -151,7 +151,7 @@ composable table name value parts sound f found =
     go true o e = cc
     go false o e = refl
 
-known : (table : List Declared) (name value : List ℕ) (parts : List (List ℕ × List ℕ)) → compose_fault table name value parts ≡ None → (o : Option Declared) → feature_of table name ≡ o → is_some o ≡ true
+known : (table : List DeclaredFeature) (name value : List ℕ) (parts : List (List ℕ × List ℕ)) → compose_fault table name value parts ≡ None → (o : Option DeclaredFeature) → feature_of table name ≡ o → is_some o ≡ true
 known table name value parts sound (Some f) found = refl
 known table name value parts sound None found =
     let word = first_none Unknown (option_or (unknown_in table (name, value)) (unknown_word table parts)) _ sound in
@@ -163,7 +163,7 @@ known table name value parts sound None found =
     or_first None p e = refl
     or_first (Some x) p e = cc
 
-pub finds_parts : (table : List Declared) (name value : List ℕ) (parts : List (List ℕ × List ℕ)) → compose_fault table name value parts ≡ None → FindsParts table (composed table name value parts) name value parts
+pub finds_parts : (table : List DeclaredFeature) (name value : List ℕ) (parts : List (List ℕ × List ℕ)) → compose_fault table name value parts ≡ None → FindsParts table (composed table name value parts) name value parts
 finds_parts table name value parts sound = record {
   by_value = ap (option_and_then (λ f. parts_of f value)) (composed_here table name value parts) ∙ here (feature_of table name) refl (known table name value parts sound (feature_of table name) refl);
   other_values = λ other apart. ap (option_and_then (λ f. parts_of f other)) (composed_here table name value parts) ∙ beside other apart (feature_of table name);
@@ -173,17 +173,17 @@ finds_parts table name value parts sound = record {
   implicit = composed_implicit table name value parts;
 }
   where
-    same_words : (o : Option Declared) → option_map words_of (option_map (λ f. with_parts f value parts) o) ≡ option_map words_of o
+    same_words : (o : Option DeclaredFeature) → option_map words_of (option_map (λ f. with_parts f value parts) o) ≡ option_map words_of o
     same_words None = refl
     same_words (Some f) = refl
 
-    here : (o : Option Declared) → feature_of table name ≡ o → is_some o ≡ true → option_and_then (λ f. parts_of f value) (option_map (λ f. with_parts f value parts) o) ≡ Some parts
+    here : (o : Option DeclaredFeature) → feature_of table name ≡ o → is_some o ≡ true → option_and_then (λ f. parts_of f value) (option_map (λ f. with_parts f value parts) o) ≡ Some parts
     here None found there = cc
     here (Some f) found there =
         lookup-push (λ composed. bytes_eq composed value) f.parts value parts ∙ ap (λ o. option_or o (cond (bytes_eq value value) (Some parts) None)) (composable table name value parts sound f found)
         ∙ ap (λ b. cond b (Some parts) None) (text_itself value)
 
-    beside : (other : List ℕ) → bytes_eq value other ≡ false → (o : Option Declared) → option_and_then (λ f. parts_of f other) (option_map (λ f. with_parts f value parts) o) ≡ option_and_then (λ f. parts_of f other) o
+    beside : (other : List ℕ) → bytes_eq value other ≡ false → (o : Option DeclaredFeature) → option_and_then (λ f. parts_of f other) (option_map (λ f. with_parts f value parts) o) ≡ option_and_then (λ f. parts_of f other) o
     beside other apart None = refl
     beside other apart (Some f) =
         lookup-push (λ composed. bytes_eq composed other) f.parts value parts ∙ ap (λ b. option_or (parts_of f other) (cond b (Some parts) None)) apart ∙ or_none (parts_of f other)

@@ -8,7 +8,7 @@ use Rattle.b2_features.specs.declared.attribute.Attribute.TheVariants.{Implicit,
 use Rattle.b2_features.specs.declared.fault.FeatureFault.{FeatureFault}
 use Rattle.b2_features.specs.declared.fault.FeatureFault.TheVariants.{Twice, Unknown, BadValue, ComposeConflict, OutOfMemory}
 use Rattle.b2_features.specs.Attributes.{has, is_word_of, is_attribute}
-use Rattle.b2_features.specs.Table.{Declared, lists, implicit_of, feature_of, parts_of}
+use Rattle.b2_features.specs.Table.{DeclaredFeature, lists, implicit_of, feature_of, parts_of}
 
 -- a letter, a digit, `.`, `_`, `-` or `+`
 abbrev pub is_name_byte : ℕ → Bool
@@ -21,20 +21,20 @@ is_name word = not (length word == 0) && list_all is_name_byte word
 -- ---- declaring a feature
 
 -- a feature of this name is there
-abbrev pub is_declared : List Declared → List ℕ → Bool
+abbrev pub is_declared : List DeclaredFeature → List ℕ → Bool
 is_declared table name = is_some (feature_of table name)
 
 -- a value is an implicit one of a feature that is there
-abbrev pub is_implicit : List Declared → List ℕ → Bool
+abbrev pub is_implicit : List DeclaredFeature → List ℕ → Bool
 is_implicit table value = is_some (implicit_of table value)
 
 -- the first of some values that is taken, or is one of those before it
-abbrev pub twice_value : List Declared → List (List ℕ) → List (List ℕ) → Option (List ℕ)
+abbrev pub twice_value : List DeclaredFeature → List (List ℕ) → List (List ℕ) → Option (List ℕ)
 twice_value table before [] = None
 twice_value table before (value ∷ more) = if is_implicit table value || list_any (bytes_eq value) before then Some value else twice_value table (before ++ value ∷ []) more
 
 -- the name where it is declared, else the first value of an implicit feature that is there
-abbrev pub twice_word : List Declared → List ℕ → List (List ℕ) → List (List ℕ) → Option (List ℕ)
+abbrev pub twice_word : List DeclaredFeature → List ℕ → List (List ℕ) → List (List ℕ) → Option (List ℕ)
 twice_word table name values attributes = if is_declared table name then Some name else (if has Implicit attributes then twice_value table [] values else None)
 
 -- a name that is none, or that of a feature without values which is neither free nor optional
@@ -56,33 +56,33 @@ bad_word name values attributes =
     (option_or (find (is_bad_value (has Free attributes)) values) (find (is_bad_attribute (has Free attributes)) attributes))
 
 -- why a feature is not declared
-abbrev pub feature_fault : List Declared → List ℕ → List (List ℕ) → List (List ℕ) → Option FeatureFault
+abbrev pub feature_fault : List DeclaredFeature → List ℕ → List (List ℕ) → List (List ℕ) → Option FeatureFault
 feature_fault table name values attributes = option_or (option_map Twice (twice_word table name values attributes)) (option_map BadValue (bad_word name values attributes))
 
 -- ---- composing a value
 
 -- the feature that is not there, or the value that its feature, not a free one, does not have
-abbrev pub unknown_in : List Declared → List ℕ × List ℕ → Option (List ℕ)
+abbrev pub unknown_in : List DeclaredFeature → List ℕ × List ℕ → Option (List ℕ)
 unknown_in table property = unknown (feature_of table property.0)
   where
-    unknown : Option Declared → Option (List ℕ)
+    unknown : Option DeclaredFeature → Option (List ℕ)
     unknown None = Some property.0
     unknown (Some f) = if has Free f.attributes || lists f property.1 then None else Some property.1
 
 -- the first unknown word of some properties
-abbrev pub unknown_word : List Declared → List (List ℕ × List ℕ) → Option (List ℕ)
+abbrev pub unknown_word : List DeclaredFeature → List (List ℕ × List ℕ) → Option (List ℕ)
 unknown_word table properties = option_and_then (unknown_in table) (find (λ property. is_some (unknown_in table property)) properties)
 
 -- whether a feature is there and has an attribute
-abbrev pub is_with : Attribute → List Declared → List ℕ → Bool
+abbrev pub is_with : Attribute → List DeclaredFeature → List ℕ → Bool
 is_with attribute table name = option_map_or (λ f. has attribute f.attributes) (feature_of table name) false
 
 -- a feature that is not composite, or else a component whose feature is
-abbrev pub bad_part : List Declared → List ℕ → List (List ℕ × List ℕ) → Option (List ℕ)
+abbrev pub bad_part : List DeclaredFeature → List ℕ → List (List ℕ × List ℕ) → Option (List ℕ)
 bad_part table name parts = if is_with Composite table name then option_map (λ part. part.0) (find (λ part. is_with Composite table part.0) parts) else Some name
 
 -- whether the value of a feature has its components already
-abbrev pub is_composed : List Declared → List ℕ → List ℕ → Bool
+abbrev pub is_composed : List DeclaredFeature → List ℕ → List ℕ → Bool
 is_composed table name value = option_map_or (λ f. is_some (parts_of f value)) (feature_of table name) false
 
 -- whether another of the parts gives the same feature another value
@@ -90,15 +90,15 @@ abbrev pub is_contradicted : List (List ℕ × List ℕ) → List ℕ × List �
 is_contradicted parts part = list_any (λ other. bytes_eq other.0 part.0 && not (bytes_eq other.1 part.1)) parts
 
 -- a part that gives a feature, not a free one, one of two values
-abbrev pub is_conflict : List Declared → List (List ℕ × List ℕ) → List ℕ × List ℕ → Bool
+abbrev pub is_conflict : List DeclaredFeature → List (List ℕ × List ℕ) → List ℕ × List ℕ → Bool
 is_conflict table parts part = not (is_with Free table part.0) && is_contradicted parts part
 
 -- a value that is composed already, or else the first value that such a part gives
-abbrev pub conflict_word : List Declared → List ℕ → List ℕ → List (List ℕ × List ℕ) → Option (List ℕ)
+abbrev pub conflict_word : List DeclaredFeature → List ℕ → List ℕ → List (List ℕ × List ℕ) → Option (List ℕ)
 conflict_word table name value parts = if is_composed table name value then Some value else option_map (λ part. part.1) (find (is_conflict table parts) parts)
 
 -- why a value is not composed
-abbrev pub compose_fault : List Declared → List ℕ → List ℕ → List (List ℕ × List ℕ) → Option FeatureFault
+abbrev pub compose_fault : List DeclaredFeature → List ℕ → List ℕ → List (List ℕ × List ℕ) → Option FeatureFault
 compose_fault table name value parts =
     option_or (option_map Unknown (option_or (unknown_in table (name, value)) (unknown_word table parts)))
     (option_or (option_map BadValue (bad_part table name parts)) (option_map ComposeConflict (conflict_word table name value parts)))

@@ -5,7 +5,7 @@ ghost use Rattle.std.specs.FinMap as map;
 ghost use Rattle.std.specs.Str.{bytes_eq};
 ghost use Rattle.std.specs.Option.{option_copied, option_or};
 ghost use Rattle.b2_base.specs.Bytes.{HasNoZero};
-ghost use Rattle.b2_features.specs.Table.{Declared, HasDistinctNames, is_whole, seen, declared, is_implicit_in, implicit_of, default_of, place_of, feature_of, composed};
+ghost use Rattle.b2_features.specs.Table.{DeclaredFeature, HasDistinctNames, is_whole, seen, declared, is_implicit_in, implicit_of, default_of, place_of, feature_of, composed};
 ghost use Rattle.b2_features.specs.Finding.{FindsOneMore, FindsParts};
 ghost use Rattle.b2_features.specs.Faults.{is_conflict, twice_value, twice_word, unknown_in, unknown_word, is_with, bad_part, is_composed, conflict_word, feature_fault, compose_fault, IsBy, is_implicit};
 
@@ -45,10 +45,10 @@ impl Drop for Registry {
 
 impl Model for Registry {
     ghost use Rattle.std.specs.Prelude.{List, map};
-    ghost use Rattle.b2_features.specs.Table.{Declared, seen};
+    ghost use Rattle.b2_features.specs.Table.{DeclaredFeature, seen};
     ghost use Rattle.b2_features.specs.Index.{IsIndexed};
 
-    ghost Value = { List Declared };
+    ghost Value = { List DeclaredFeature };
 
     ghost view = { λ r. map (λ e. seen e.1) r.features.entries };
 

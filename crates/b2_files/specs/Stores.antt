@@ -7,7 +7,7 @@ use Rattle.std.specs.Cmp.Lexicographic.{slice_cmp}
 use Rattle.std.specs.FinMap as finite
 use Rattle.std.specs.Str.{bytes_eq}
 use Rattle.b2_host.specs.Disks.{File, Folder, Past, Disk}
-use Rattle.b2_files.specs.declared.entry.Entry.{Entry}
+use Rattle.b2_files.specs.declared.file_bytes.FileBytes.{FileBytes}
 use Rattle.b2_files.specs.declared.version.Version.{Version}
 use Rattle.b2_files.specs.Buffers.{bytes_in, is_within}
 
@@ -26,7 +26,7 @@ abbrev pub place_set : PlaceMap → List ℕ → Option ℕ → List ℕ → Opt
 place_set places path place other = if bytes_eq path other then (if is_known places path then place else None) else place_of places other
 
 -- the path of each entry is known
-abbrev pub all_known : PlaceMap → List Entry → Bool
+abbrev pub all_known : PlaceMap → List FileBytes → Bool
 all_known places entries = list_all (λ entry. is_known places entry.path) entries
 
 -- a path with bytes
@@ -37,11 +37,11 @@ abbrev pub write_path : Write → List ℕ
 write_path write = write.0
 
 -- an entry as a write
-abbrev pub write_of : Entry → Write
+abbrev pub write_of : FileBytes → Write
 write_of entry = (entry.path, entry.bytes.value.items)
 
 -- the same of an entry that is referred to
-abbrev pub input_of : Bor Entry → Write
+abbrev pub input_of : Bor FileBytes → Write
 input_of entry = write_of entry.now
 
 -- a version as a write

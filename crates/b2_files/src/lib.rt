@@ -7,7 +7,7 @@
 #![tactic(auto)]
 
 pub mod contents;
-pub mod entry;
+pub mod file_bytes;
 mod names;
 pub mod places;
 pub mod store;

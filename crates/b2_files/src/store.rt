@@ -17,7 +17,7 @@ ghost use Rattle.b2_files.specs.Writes.{written, all_written};
 ghost use Rattle.b2_files.specs.Stores.{place_of, all_known, all_within, write_of, writes_in, IsPlaced};
 
 use crate::contents::{Content, Contents};
-use crate::entry::Entry;
+use crate::file_bytes::FileBytes;
 use crate::names::name_in;
 use crate::places::Places;
 use crate::version::Version;
@@ -94,7 +94,7 @@ impl Store {
     }
 
     /// The file at a path, for a child that is given it.
-    pub fn held(&self, alloc: Global, path: &Path) -> Result<Option<Entry>, OutOfMemory>
+    pub fn held(&self, alloc: Global, path: &Path) -> Result<Option<FileBytes>, OutOfMemory>
         ensures { IfOk result (λ found. option_map write_of found ≡ read_at (told self.now).now path.now) }
     {
         match self.place(path) {
@@ -103,7 +103,7 @@ impl Store {
                 let version = &self.past[place];
                 let bytes = self.contents.share(alloc, &version.content)?;
                 let path = version.path.copy()?;
-                Ok(Some(Entry { path, bytes }))
+                Ok(Some(FileBytes { path, bytes }))
             }
         }
     }
@@ -177,7 +177,7 @@ impl Store {
     }
 
     /// Makes the paths of some entries known.
-    fn know_all(&mut self, entries: &[Entry]) -> Result<(), OutOfMemory>
+    fn know_all(&mut self, entries: &[FileBytes]) -> Result<(), OutOfMemory>
         ensures known { OnOk result (IsTrue (all_known self.new.places entries.now)) }
         ensures stays { (other : List ℕ) → IsTrue (knows self.old other) → IsTrue (knows self.new other) }
         ensures disk { told self.new ≡ told self.old }
@@ -192,7 +192,7 @@ impl Store {
     }
 
     /// Makes the paths of some entries known, and takes room for so many more.
-    pub fn prepare(&mut self, entries: &[Entry], more: usize) -> Result<(), OutOfMemory>
+    pub fn prepare(&mut self, entries: &[FileBytes], more: usize) -> Result<(), OutOfMemory>
         ensures known { OnOk result (IsTrue (all_known self.new.places entries.now)) }
         ensures ok { OnOk result (vec_len self.new.past + more ≤ vec_capacity self.new.past) }
         ensures stays { (other : List ℕ) → IsTrue (knows self.old other) → IsTrue (knows self.new other) }
@@ -235,7 +235,7 @@ impl Store {
     }
 
     /// Puts an entry, whose path is known, into room that was taken.
-    fn put_entry(&mut self, entry: Entry)
+    fn put_entry(&mut self, entry: FileBytes)
         requires known { IsTrue (knows self.old entry.path) }
         requires room { vec_len self.old.past < vec_capacity self.old.past }
         ensures disk { told self.new ≡ written entry.path entry.bytes.value.items (told self.old) }
@@ -243,13 +243,13 @@ impl Store {
         ensures len { vec_len self.new.past ≡ vec_len self.old.past + 1 }
         ensures room { vec_capacity self.new.past ≡ vec_capacity self.old.past }
     {
-        let Entry { path, bytes } = entry;
+        let FileBytes { path, bytes } = entry;
         let content = Content::Whole(bytes);
         self.put(Version { path, content });
     }
 
     /// Puts entries, whose paths are known, into room that was taken.
-    pub fn put_all(&mut self, entries: Vec<Entry>)
+    pub fn put_all(&mut self, entries: Vec<FileBytes>)
         requires known { IsTrue (all_known self.old.places entries.items) }
         requires room { vec_len self.old.past + vec_len entries ≤ vec_capacity self.old.past }
         ensures disk { told self.new ≡ all_written (map write_of entries.items) (told self.old) }

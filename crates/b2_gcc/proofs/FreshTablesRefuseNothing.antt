@@ -1,7 +1,7 @@
 -- Features, types and generators of the toolset are all taken where nothing else was declared, found by evaluation.
 use Rattle.std.proofs.Common.{◌≡◌, false, [], None, refl}
 use Rattle.b2_gcc.specs.Tables.{features, composites, file_types, generators}
-use Rattle.b2_gcc.specs.Calls.{toolset_fault, are_types_refused, are_generators_refused}
+use Rattle.b2_gcc.specs.TableDeclarations.{toolset_fault, are_types_refused, are_generators_refused}
 
 -- nothing of the toolset is refused where nothing else is there
 

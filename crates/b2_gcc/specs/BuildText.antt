@@ -3,7 +3,7 @@ use Prim.Native.String.{String}
 use Rattle.std.specs.Prelude.{ℕ, List, [], ◌∷◌, ◌++◌, Option, unwrap_or, codes}
 use Rattle.std.specs.List.{flat_map}
 use Rattle.jam_spelling.specs.Spelling.{spelling}
-use Rattle.jam_spelling.specs.Standing.{word}
+use Rattle.jam_spelling.specs.LexemeLists.{word}
 
 -- some lines, each ended by a line feed, 10
 abbrev pub lines : List String → List ℕ

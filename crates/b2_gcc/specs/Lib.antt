@@ -5,6 +5,6 @@
 -- `Rows`: what the rows of the program's tables show
 
 pub mod Tables
-pub mod Calls
+pub mod TableDeclarations
 pub mod Rows
 pub mod BuildText

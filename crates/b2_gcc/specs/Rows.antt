@@ -3,7 +3,7 @@ use Rattle.std.specs.Prelude.{ℕ, Bool, ◌&&◌, List, [], ◌∷◌, map, nat
 use Rattle.std.specs.List.{list_all}
 use Rattle.std.specs.Borrow.{Bor}
 use Rattle.b2_base.specs.Segments.{texts}
-use Rattle.b2_features.specs.Table.{Declared, declared}
+use Rattle.b2_features.specs.Table.{DeclaredFeature, declared}
 use Rattle.b2_props.specs.Sets.{Pair}
 use Rattle.b2_generators.specs.Table.{FileType}
 use Rattle.b2_generators.specs.declared.generator.Generator.{Generator}
@@ -17,7 +17,7 @@ use Rattle.b2_gcc.specs.declared.types.GeneratorRow.{GeneratorRow}
 abbrev pub pairs : List (Bor (List ℕ) × Bor (List ℕ)) → List Pair
 pairs = map (λ p. (p.0.now, p.1.now))
 
-abbrev pub feature_in : FeatureRow → Declared
+abbrev pub feature_in : FeatureRow → DeclaredFeature
 feature_in row = declared row.name.now (texts row.values.now) (texts row.attributes.now)
 
 abbrev pub composite_in : CompositeRow → Composite
@@ -39,7 +39,7 @@ is_clean text = list_all (nat_lt 0) text
 abbrev pub is_clean_pair : Pair → Bool
 is_clean_pair p = is_clean p.0 && is_clean p.1
 
-abbrev pub is_clean_feature : Declared → Bool
+abbrev pub is_clean_feature : DeclaredFeature → Bool
 is_clean_feature f = is_clean f.name && (list_all is_clean f.values && list_all is_clean f.attributes)
 
 abbrev pub is_clean_composite : Composite → Bool

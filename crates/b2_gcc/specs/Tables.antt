@@ -2,7 +2,7 @@
 use Prim.Native.String.{String}
 use Rattle.std.specs.Prelude.{ℕ, ◌==◌, List, [], ◌∷◌, length, codes, if◌then◌else◌}
 use Rattle.std.specs.List.{slice_split}
-use Rattle.b2_features.specs.Table.{Declared, declared}
+use Rattle.b2_features.specs.Table.{DeclaredFeature, declared}
 use Rattle.b2_props.specs.Sets.{Pair}
 use Rattle.b2_generators.specs.Table.{FileType}
 use Rattle.b2_generators.specs.declared.generator.Generator.{Generator}
@@ -14,11 +14,11 @@ words text = if length (codes text) == 0 then [] else slice_split (λ byte. byte
 -- ---- features
 
 -- a feature, its values, of which the first is the default, and its attributes
-abbrev pub feature : String → String → String → Declared
+abbrev pub feature : String → String → String → DeclaredFeature
 feature name values attributes = declared (codes name) (words values) (words attributes)
 
 -- the features, in order
-unfoldable pub features : List Declared
+unfoldable pub features : List DeclaredFeature
 features =
     feature "toolset" "gcc" "implicit propagated symmetric"
     ∷ feature "variant" "debug release" "implicit composite propagated symmetric"

@@ -2,7 +2,7 @@
 ghost use Rattle.std.specs.Prelude.{◌≡◌, [], ◌∷◌, ◌++◌, true, None, OnOk, OnErr, IfErr, map, fold};
 ghost use Rattle.std.specs.List.{list_all};
 ghost use Rattle.b2_features.specs.Faults.{feature_fault, compose_fault, IsBy};
-ghost use Rattle.b2_gcc.specs.Calls.{features_fault, composites_fault, with_composite, with_toolset, toolset_fault};
+ghost use Rattle.b2_gcc.specs.TableDeclarations.{features_fault, composites_fault, with_composite, with_toolset, toolset_fault};
 ghost use Rattle.b2_gcc.specs.Rows.{feature_in, composite_in, is_clean_feature, is_clean_composite};
 
 use crate::owned::owned_pairs;

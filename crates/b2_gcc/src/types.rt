@@ -3,7 +3,7 @@ ghost use Rattle.std.specs.Prelude.{◌≡◌, ◌≢◌, [], ◌∷◌, true, f
 ghost use Rattle.std.specs.List.{list_all};
 ghost use Rattle.b2_generators.specs.Table.{is_type_taken};
 ghost use Rattle.b2_gcc.specs.Tables.{file_types, generators};
-ghost use Rattle.b2_gcc.specs.Calls.{with_types, are_types_refused, with_generators, are_generators_refused};
+ghost use Rattle.b2_gcc.specs.TableDeclarations.{with_types, are_types_refused, with_generators, are_generators_refused};
 ghost use Rattle.b2_gcc.specs.Rows.{type_in, generator_in, is_clean_type, is_clean_generator};
 
 use crate::owned::owned_pairs;

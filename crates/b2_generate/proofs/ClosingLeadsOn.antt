@@ -6,17 +6,17 @@ use Rattle.b2_plan.specs.declared.step.Step.{Step}
 use Rattle.b2_props.specs.Sets.{Pair}
 use Rattle.b2_virtual.specs.Joining.{is_same}
 use Rattle.b2_virtual.proofs.JoinedStepsKeepTheirNumbers.{same_is_equal}
-use Rattle.b2_metatargets.specs.declared.whole.Declared.{Declared}
+use Rattle.b2_declared.specs.declared.whole.Declared.{Declared}
 use Rattle.b2_references.specs.Names.{Name, is_among, target_text, name_of}
 use Rattle.b2_alternatives.specs.declared.conflict.Conflict.{Conflict}
 use Rattle.b2_alternatives.specs.declared.need.Next.TheVariants.{Complete}
 use Rattle.b2_alternatives.specs.Picking.{seen}
-use Rattle.b2_conversions.specs.Answers.{Grows}
+use Rattle.b2_making.specs.Answers.{Grows}
 use Rattle.b2_generate.specs.Answers.{Generated}
 use Rattle.b2_generate.specs.Faults.{usage_conflict}
 use Rattle.b2_generate.specs.Generation.{Generates, Finishes}
-use Rattle.b2_conversions.specs.Laws.{StandIn}
-use Rattle.b2_generate.specs.Loaded.{Loaded}
+use Rattle.b2_making.specs.Laws.{StandIn}
+use Rattle.b2_generate.specs.LoadedProjects.{LoadedProject}
 use Rattle.b2_generate.specs.Machine.{frame_of, standing_of, names_of, AreKept}
 use Rattle.b2_generate.specs.Making.{given_of}
 use Rattle.b2_generate.specs.Measure.{turns_left}
@@ -25,12 +25,12 @@ use Rattle.b2_generate.specs.Opening.{AreReady}
 use Rattle.b2_generate.specs.Remembered.{AreMade}
 use Rattle.b2_generate.specs.Stack as stacks
 use Rattle.b2_generate.specs.Stack.{IsUnderWay, opened}
-use Rattle.b2_generate.specs.Standing.{conflict, next}
+use Rattle.b2_generate.specs.OpenTargets.{conflict, next}
 use Rattle.b2_generate.specs.Tables.{Table}
 use Rattle.b2_generate.specs.Taking.{IsTaken}
 use Rattle.b2_generate.specs.Turning.{GoOn, turns_of}
 use Rattle.b2_generate.specs.declared.frame.Frame.{Frame}
-use Rattle.b2_generate.specs.declared.making.Made.{Made}
+use Rattle.b2_generate.specs.declared.making.TargetOutput.{TargetOutput}
 use Rattle.b2_generate.specs.declared.node.Node.{Node}
 use Rattle.b2_generate.proofs.NodesAreGivenAgain.{made_stay}
 use Rattle.b2_generate.proofs.NewNodeKeepsOpenTargets.{frame_later, frames_later, standing_later, all_later}
@@ -57,10 +57,10 @@ own_stand : (steps : List Step) → StandIn steps steps
 own_stand steps step c = list_any-from_Contains same_steps step steps c
 
 -- what it gives
-abbrev pub gives_of : List Node → Frame → Made → Generated
+abbrev pub gives_of : List Node → Frame → TargetOutput → Generated
 gives_of nodes f made = given_of (seen f.name f.chosen) (standing_of nodes f) made
 
-module _ (d : Declared) (nodes : List Node) (f : Frame) (below : List Frame) (made : Made) (n : Node) (kept : AreKept nodes d (f ∷ below)) (named : n.name ≡ f.name) (gives : given_by nodes n ≡ gives_of nodes f made) where
+module _ (d : Declared) (nodes : List Node) (f : Frame) (below : List Frame) (made : TargetOutput) (n : Node) (kept : AreKept nodes d (f ∷ below)) (named : n.name ≡ f.name) (gives : given_by nodes n ≡ gives_of nodes f made) where
   entry_last : entry_in (n ∷ nodes) (length nodes) ≡ (f.name, gives_of nodes f made)
   entry_last = entry_newest n nodes ∙ (λ i. (named i, gives i))
 
@@ -68,7 +68,7 @@ module _ (d : Declared) (nodes : List Node) (f : Frame) (below : List Frame) (ma
   pub below_kept : AreKept (n ∷ nodes) d below
   below_kept = all_later turned d n nodes below kept.3 (ap (is_among (names_of below)) named ∙ kept.0)
 
-module _ (d : Declared) (nodes : List Node) (f g : Frame) (rest : List Frame) (made : Made) (n : Node) (kept : AreKept nodes d (f ∷ g ∷ rest)) (named : n.name ≡ f.name) (gives : given_by nodes n ≡ gives_of nodes f made) where
+module _ (d : Declared) (nodes : List Node) (f g : Frame) (rest : List Frame) (made : TargetOutput) (n : Node) (kept : AreKept nodes d (f ∷ g ∷ rest)) (named : n.name ≡ f.name) (gives : given_by nodes n ≡ gives_of nodes f made) where
   last_one : entry_in (n ∷ nodes) (length nodes) ≡ (f.name, gives_of nodes f made)
   last_one = entry_last d nodes f (g ∷ rest) made n kept named gives
 
@@ -101,7 +101,7 @@ module _ (d : Declared) (nodes : List Node) (f g : Frame) (rest : List Frame) (m
               (closing_leaves d (map name_of d.targets) (frame_of nodes f) (frame_of nodes g) (map (frame_of nodes) rest) (gives_of nodes f made));
         }
 
-module _ {E : Type 0} (l : Loaded E) (name : Name) (set : List Pair) (start : List Step) (nodes : List Node) (f : Frame) (before after : List Step) (made : Made)
+module _ {E : Type 0} (l : LoadedProject E) (name : Name) (set : List Pair) (start : List Step) (nodes : List Node) (f : Frame) (before after : List Step) (made : TargetOutput)
     (complete : next l.declared (seen f.name f.chosen) (standing_of nodes f) ≡ Complete) (finishes : Finishes l (seen f.name f.chosen) (standing_of nodes f) before (Ok (gives_of nodes f made, after))) where
   -- it was made
   pub made_more : (below : List Frame) (n : Node) → IsUnderWay l name set start (map (frame_of nodes) (f ∷ below)) before → AreMade l nodes before

@@ -6,9 +6,9 @@ use Rattle.std.proofs.lemmas.List.{map-append, reverse-reverse, take_all}
 use Rattle.std.proofs.Math.Bool.{or-false}
 use Rattle.std.proofs.Math.Dec.{eqb-suc-zero}
 use Rattle.b2_props.specs.Sets.{Pair}
-use Rattle.b2_metatargets.specs.declared.whole.Declared.{Declared}
+use Rattle.b2_declared.specs.declared.whole.Declared.{Declared}
 use Rattle.b2_references.specs.Names.{Name, is_same, is_among}
-use Rattle.b2_alternatives.specs.Asking.{HoldsOf}
+use Rattle.b2_alternatives.specs.IndirectRules.{HoldsOf}
 use Rattle.b2_alternatives.specs.Choosing.{Chooses, Returned}
 use Rattle.b2_alternatives.specs.declared.fault.ChoiceFault.{ChoiceFault}
 use Rattle.b2_alternatives.specs.declared.fault.ChoiceFault.TheVariants.{NoAlternative, AmbiguousAlternative, Unstable, BadAnswer, Eval, OutOfMemory}
@@ -18,7 +18,7 @@ use Rattle.b2_generate.specs.Machine.{names_of}
 use Rattle.b2_generate.specs.Opening.{IsUnchosen}
 use Rattle.b2_generate.specs.declared.frame.Frame.{Frame}
 use Rattle.b2_generate.proofs.SupplyGathersPartByPart.{further}
-use Rattle.b2_generate.specs.Told.{unless, IfFault, IsRefusal}
+use Rattle.b2_generate.specs.ToldOutcomes.{unless, IfFault, IsRefusal}
 use Rattle.b2_generate.specs.declared.fault.GenFault.TheVariants.{NotChosen}
 
 module _ {E : Type 0} (is_host is_out : E → Bool) (d : Declared) (returned : Returned E) (name : Name) (set : List Pair) where

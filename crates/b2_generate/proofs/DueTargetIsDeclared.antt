@@ -3,8 +3,8 @@ use Rattle.std.proofs.Common.{◌≡◌, ℕ, Bool, true, false, ◌||◌, List,
 use Rattle.std.specs.Prelude.{not}
 use Rattle.std.specs.List.{AllByRecursion, flat_map}
 use Rattle.std.specs.Option.{option_map_or}
-use Rattle.b2_metatargets.specs.declared.whole.Declared.{Declared}
-use Rattle.b2_metatargets.specs.declared.place.Target.{Target}
+use Rattle.b2_declared.specs.declared.whole.Declared.{Declared}
+use Rattle.b2_declared.specs.declared.place.Target.{Target}
 use Rattle.b2_props.specs.Sets.{Pair}
 use Rattle.b2_references.specs.Names.{Name, name_of, is_same, is_among, is_target, first_names}
 use Rattle.b2_references.specs.References.{source_meaning, value_meaning, plain_value_meaning, target_or_file, id_meaning, reference_meaning, target_meaning, project_meaning, listed_targets, projects_under, project_before, place_with}
@@ -16,7 +16,7 @@ use Rattle.b2_alternatives.specs.Choosing.{Chosen}
 use Rattle.b2_alternatives.specs.declared.need.Need.{Need}
 use Rattle.b2_alternatives.specs.declared.need.Next.{Next}
 use Rattle.b2_alternatives.specs.declared.need.Next.TheVariants.{Due}
-use Rattle.b2_generate.specs.Standing.{Standing, next}
+use Rattle.b2_generate.specs.OpenTargets.{Standing, next}
 use Rattle.b2_generate.proofs.OpenTargetsAreKeptRightly.{target_named}
 use Rattle.b2_generate.proofs.SameNamesAreEqual.{reflexive}
 

@@ -1,12 +1,12 @@
 -- Opening a main target, taking what is there and closing the newest one each lower the bound on generation.
 use Rattle.std.proofs.Common.{arith, ◌≡◌, ◌<◌, ◌≤◌, true, false, ℕ, suc, ◌+◌, ◌*◌, List, [], ◌∷◌, ◌++◌, length, sym, subst}
 use Rattle.std.proofs.lemmas.List.{map-append}
-use Rattle.b2_metatargets.specs.declared.whole.Declared.{Declared}
+use Rattle.b2_declared.specs.declared.whole.Declared.{Declared}
 use Rattle.b2_references.specs.Names.{Name, is_among}
 use Rattle.b2_props.specs.Sets.{Pair}
 use Rattle.b2_alternatives.specs.Choosing.{Chosen}
 use Rattle.b2_generate.specs.Answers.{Generated}
-use Rattle.b2_generate.specs.Standing.{Standing, with_target}
+use Rattle.b2_generate.specs.OpenTargets.{Standing, with_target}
 use Rattle.b2_generate.specs.Stack.{Frame, opened, fresh, supplied}
 use Rattle.b2_generate.specs.Measure.{left, turns, done_names, turns_of, waiting_turns, turns_left}
 use Rattle.b2_generate.proofs.SameNamesAreEqual.{reflexive, same}

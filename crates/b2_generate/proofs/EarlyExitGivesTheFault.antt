@@ -2,9 +2,9 @@
 use Rattle.std.proofs.Common.{◌≡◌, ℕ, Bool, Option, Result, Err, IfOk, IfErr, sym, ap, subst, ◌∙◌}
 use Rattle.std.specs.Result.{IsErrAnd}
 use Rattle.std.proofs.lemmas.Result.{err_from_is_err_and}
-use Rattle.b2_evaluation.specs.Answers.{Answers}
+use Rattle.b2_evaluator.specs.Answers.{Answers}
 use Rattle.b2_generate.specs.Faults.{Fault}
-use Rattle.b2_generate.specs.Told.{IsRefusal, Leaves}
+use Rattle.b2_generate.specs.ToldOutcomes.{IsRefusal, Leaves}
 use Rattle.b2_generate.specs.declared.fault.GenFault.{GenFault}
 use Rattle.b2_generate.specs.declared.fault.GenFault.TheVariants.{OutOfMemory}
 

@@ -7,19 +7,19 @@ use Rattle.b2_alternatives.specs.Needs as needs
 use Rattle.b2_alternatives.specs.declared.need.Next.TheVariants.{Due}
 use Rattle.b2_alternatives.proofs.TargetAndSetDecideChoice.{names_itself}
 use Rattle.b2_alternatives.proofs.FirstUnmetNeedComesNext.{due_new}
-use Rattle.b2_conversions.specs.Acts as making
-use Rattle.b2_conversions.specs.Conversions.{makes}
+use Rattle.b2_making.specs.Acts as making
+use Rattle.b2_making.specs.Conversions.{makes}
 use Rattle.b2_virtual.specs.declared.entry.Supply.{Supply}
-use Rattle.b2_conversions.proofs.EarlierStepsAreKept.{steady_kind}
-use Rattle.b2_metatargets.specs.declared.whole.Declared.{Declared}
+use Rattle.b2_making.proofs.EarlierStepsAreKept.{steady_kind}
+use Rattle.b2_declared.specs.declared.whole.Declared.{Declared}
 use Rattle.b2_generate.specs.Answers.{Generated}
 use Rattle.b2_generate.specs.Faults.{Fault}
 use Rattle.b2_generate.specs.Generation.{Finishes, finished_by, generated, site}
 use Rattle.b2_generate.specs.Laws.{IsLawful}
-use Rattle.b2_conversions.specs.Laws.{StandIn}
-use Rattle.b2_generate.specs.Loaded.{Loaded, returned, context}
+use Rattle.b2_making.specs.Laws.{StandIn}
+use Rattle.b2_generate.specs.LoadedProjects.{LoadedProject, returned, context}
 use Rattle.b2_generate.specs.Measure.{done_names}
-use Rattle.b2_generate.specs.Standing.{Standing, next}
+use Rattle.b2_generate.specs.OpenTargets.{Standing, next}
 use Rattle.b2_generate.specs.Supplies.{final_set}
 
 -- a main target that is due was not generated before
@@ -29,7 +29,7 @@ due_is_new d c s name e = due_new (done_names s) (needs.needs d c.target s.set) 
 unok : {A B : Type 0} (r : Result A B) (x y : A) → r ≡ Ok x → r ≡ Ok y → x ≡ y
 unok r x y p q = cc
 
-module _ {E : Type 0} (l : Loaded E) where
+module _ {E : Type 0} (l : LoadedProject E) where
   -- what was made, where a main target finished
   record IsMadeOf (c : Chosen) (s : Standing) (before : List Step) (given : Generated) (after : List Step) : Type 0 where
     supply : Supply

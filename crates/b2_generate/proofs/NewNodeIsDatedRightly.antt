@@ -8,7 +8,7 @@ use Rattle.std.proofs.lemmas.List.{take_all, reverse-reverse, reverse-append, le
 use Rattle.std.proofs.lemmas.List.Folds.{flat_map-map}
 use Rattle.std.proofs.lemmas.Option.{slice_get_past}
 use Rattle.b2_props.specs.Sets.{IsSet}
-use Rattle.b2_metatargets.specs.declared.whole.Declared.{Declared}
+use Rattle.b2_declared.specs.declared.whole.Declared.{Declared}
 use Rattle.b2_references.specs.Names.{Name, is_same, features}
 use Rattle.b2_generate.specs.Machine.{HasPlaces}
 use Rattle.b2_generate.specs.Making.{IsLatest}
@@ -17,7 +17,7 @@ use Rattle.b2_generate.specs.Opening.{AreReady}
 use Rattle.b2_generate.specs.Tables.{Table}
 use Rattle.b2_generate.specs.Turning.{IsCompleted, IsNodeOf, IsNoted}
 use Rattle.b2_generate.specs.declared.frame.Frame.{Frame}
-use Rattle.b2_generate.specs.declared.making.Made.{Made}
+use Rattle.b2_generate.specs.declared.making.TargetOutput.{TargetOutput}
 use Rattle.b2_generate.specs.declared.node.Node.{Node}
 use Rattle.b2_generate.proofs.SupplyGathersPartByPart.{further_at}
 use Rattle.b2_generate.proofs.SameNamesAreEqual.{reflexive, same, get_put_name}
@@ -122,7 +122,7 @@ node_dated n older first dated there is latest = (
 )
 
 -- an open main target became a node
-pub completed : (d : Declared) (older : List Node) (f : Frame) (made : Made) (n : Node) (before after : Table ℕ) (place latest : ℕ)
+pub completed : (d : Declared) (older : List Node) (f : Frame) (made : TargetOutput) (n : Node) (before after : Table ℕ) (place latest : ℕ)
     → HasPlaces older f.done f.places → AreReady d older before → place ≡ length older → IsNodeOf f made latest n → IsNoted f.name place before after
     → IsLatest older f.done (unwrap_or (finite.get before f.name) place) latest → IsSet (features d) made.set → IsCompleted d older f made (n ∷ older) after place
 completed d older f made n before after place latest_place has was place_is is noted latest set = record {
@@ -150,7 +150,7 @@ completed d older f made n before after place latest_place has was place_is is n
 }
 
 -- the same, where the nodes of the code are in order
-pub completes : (d : Declared) (listed after_listed : List Node) (f : Frame) (made : Made) (n : Node) (before after : Table ℕ) (latest : ℕ)
+pub completes : (d : Declared) (listed after_listed : List Node) (f : Frame) (made : TargetOutput) (n : Node) (before after : Table ℕ) (latest : ℕ)
     → HasPlaces (reverse listed) f.done f.places → after_listed ≡ listed ++ n ∷ [] → IsNodeOf f made latest n → IsNoted f.name (length listed) before after
     → IsLatest (reverse listed) f.done (unwrap_or (finite.get before f.name) (length listed)) latest
     → AreReady d (reverse listed) before → IsSet (features d) made.set → IsCompleted d (reverse listed) f made (reverse after_listed) after (length listed)

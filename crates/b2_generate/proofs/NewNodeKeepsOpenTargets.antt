@@ -4,12 +4,12 @@ use Rattle.std.specs.List.{AllByRecursion}
 use Rattle.std.specs.FinMap as finite
 use Rattle.std.proofs.lemmas.List.Folds.{list_any-append}
 use Rattle.b2_props.specs.Sets.{Pair}
-use Rattle.b2_metatargets.specs.declared.whole.Declared.{Declared}
+use Rattle.b2_declared.specs.declared.whole.Declared.{Declared}
 use Rattle.b2_references.specs.Names.{Name, is_same, is_among}
 use Rattle.b2_alternatives.specs.Picking.{seen}
-use Rattle.b2_alternatives.specs.Standing.{StandAt}
+use Rattle.b2_alternatives.specs.DependencyWork.{StandAt}
 use Rattle.b2_generate.specs.Answers.{Generated}
-use Rattle.b2_generate.specs.Standing.{under}
+use Rattle.b2_generate.specs.OpenTargets.{under}
 use Rattle.b2_generate.specs.Stack.{opened, fresh}
 use Rattle.b2_generate.specs.Nodes.{entry_in, first_in, IsFrom, AreLate}
 use Rattle.b2_generate.specs.Tables.{name_cmp}

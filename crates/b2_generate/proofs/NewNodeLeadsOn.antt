@@ -3,26 +3,26 @@ use Rattle.std.proofs.Common.{arith, ◌≡◌, ◌<◌, ℕ, List, [], ◌∷�
 use Rattle.std.proofs.lemmas.List.{reverse-append}
 use Rattle.b2_plan.specs.declared.step.Step.{Step}
 use Rattle.b2_props.specs.Sets.{Pair}
-use Rattle.b2_metatargets.specs.declared.whole.Declared.{Declared}
+use Rattle.b2_declared.specs.declared.whole.Declared.{Declared}
 use Rattle.b2_references.specs.Names.{Name, target_text}
 use Rattle.b2_alternatives.specs.declared.conflict.Conflict.{Conflict}
 use Rattle.b2_alternatives.specs.declared.need.Next.TheVariants.{Complete}
 use Rattle.b2_alternatives.specs.Picking.{seen}
-use Rattle.b2_conversions.specs.Answers.{Grows}
+use Rattle.b2_making.specs.Answers.{Grows}
 use Rattle.b2_generate.specs.Faults.{usage_conflict}
 use Rattle.b2_generate.specs.Generation.{Generates, Finishes}
-use Rattle.b2_generate.specs.Loaded.{Loaded}
+use Rattle.b2_generate.specs.LoadedProjects.{LoadedProject}
 use Rattle.b2_generate.specs.Machine.{frame_of, standing_of, IsKept, AreKept}
 use Rattle.b2_generate.specs.Nodes.{entry_in, AreAdded}
 use Rattle.b2_generate.specs.Opening.{AreReady}
 use Rattle.b2_generate.specs.Remembered.{AreMade}
 use Rattle.b2_generate.specs.Stack.{IsUnderWay}
-use Rattle.b2_generate.specs.Standing.{conflict, next}
+use Rattle.b2_generate.specs.OpenTargets.{conflict, next}
 use Rattle.b2_generate.specs.Tables.{Table}
 use Rattle.b2_generate.specs.Taking.{IsTaken}
 use Rattle.b2_generate.specs.Turning.{IsCompleted, GoOn, IsOver, turns_of}
 use Rattle.b2_generate.specs.declared.frame.Frame.{Frame}
-use Rattle.b2_generate.specs.declared.making.Made.{Made}
+use Rattle.b2_generate.specs.declared.making.TargetOutput.{TargetOutput}
 use Rattle.b2_generate.specs.declared.node.Node.{Node}
 use Rattle.b2_generate.proofs.ClosingLeadsOn.{gives_of, below_kept, closed_goes, made_more, oldest_ends, closed_leads, closed_clashes}
 
@@ -37,7 +37,7 @@ one_below items rest g e = ap (λ (fs : List Frame). reverse fs) e ∙ reverse-a
 
 -- ---- an open main target that became a node
 
-module _ (d : Declared) (nodes : List Node) (f : Frame) (below : List Frame) (made : Made) (new_nodes : List Node) (firsts : Table ℕ) (place : ℕ) (done : IsCompleted d nodes f made new_nodes firsts place) where
+module _ (d : Declared) (nodes : List Node) (f : Frame) (below : List Frame) (made : TargetOutput) (new_nodes : List Node) (firsts : Table ℕ) (place : ℕ) (done : IsCompleted d nodes f made new_nodes firsts place) where
   pub done_over : IsOver d new_nodes firsts place
   done_over = record { ready = done.ready; there = subst (λ (ns : List Node). place < length ns) (sym done.nodes) (omega (arith, done.place_is)) }
 
@@ -60,7 +60,7 @@ module _ (d : Declared) (nodes : List Node) (f : Frame) (below : List Frame) (ma
         (subst (λ (ns : List Node). GoOn d (turns_of d nodes (f ∷ g ∷ rest)) ns firsts (after ∷ rest)) (sym done.nodes)
         (closed_goes d nodes f g rest made done.node kept_as done.named done.gives after (taken_last g after took) firsts (subst (λ (ns : List Node). AreReady d ns firsts) done.nodes done.ready)))
 
-module _ {E : Type 0} (l : Loaded E) (name : Name) (set : List Pair) (start : List Step) (nodes : List Node) (f : Frame) (below : List Frame) (before after : List Step) (made : Made)
+module _ {E : Type 0} (l : LoadedProject E) (name : Name) (set : List Pair) (start : List Step) (nodes : List Node) (f : Frame) (below : List Frame) (before after : List Step) (made : TargetOutput)
     (new_nodes : List Node) (firsts : Table ℕ) (place : ℕ) (done : IsCompleted l.declared nodes f made new_nodes firsts place) (kept : AreKept nodes l.declared (f ∷ below))
     (complete : next l.declared (seen f.name f.chosen) (standing_of nodes f) ≡ Complete) (finishes : Finishes l (seen f.name f.chosen) (standing_of nodes f) before (Ok (gives_of nodes f made, after)))
     (way : IsUnderWay l name set start (map (frame_of nodes) (f ∷ below)) before) where

@@ -6,18 +6,18 @@ use Rattle.std.specs.FinMap as finite
 use Rattle.std.proofs.lemmas.List.{map-append, length-reverse}
 use Rattle.b2_props.specs.Sets.{Pair}
 use Rattle.b2_props.specs.Refinement.{refined}
-use Rattle.b2_metatargets.specs.declared.whole.Declared.{Declared}
+use Rattle.b2_declared.specs.declared.whole.Declared.{Declared}
 use Rattle.b2_references.specs.Names.{Name, is_same, features}
 use Rattle.b2_alternatives.specs.Needs as needs
 use Rattle.b2_alternatives.specs.Picking.{seen}
-use Rattle.b2_alternatives.specs.Standing.{StandAt, Adds}
+use Rattle.b2_alternatives.specs.DependencyWork.{StandAt, Adds}
 use Rattle.b2_alternatives.specs.declared.conflict.Conflict.{Conflict}
 use Rattle.b2_alternatives.specs.declared.dependencies.Dependencies.{Dependencies}
 use Rattle.b2_generate.specs.Answers.{Generated}
 use Rattle.b2_generate.specs.Nodes.{entry_in, node_in}
 use Rattle.b2_generate.specs.Machine.{place_among, HasPlaces, IsKept, standing_of}
 use Rattle.b2_generate.specs.Opening.{IsConflict}
-use Rattle.b2_generate.specs.Standing.{under, conflict}
+use Rattle.b2_generate.specs.OpenTargets.{under, conflict}
 use Rattle.b2_generate.specs.Tables.{Table}
 use Rattle.b2_generate.specs.Taking.{IsTaken, Notes}
 use Rattle.b2_generate.specs.declared.fault.GenFault.{GenFault}

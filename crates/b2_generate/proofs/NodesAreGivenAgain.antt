@@ -5,11 +5,11 @@ use Rattle.b2_references.specs.Names.{Name}
 use Rattle.b2_props.specs.Sets.{Pair}
 use Rattle.b2_plan.specs.declared.step.Step.{Step}
 use Rattle.b2_generate.specs.Answers.{Generated}
-use Rattle.b2_generate.specs.Loaded.{Loaded}
+use Rattle.b2_generate.specs.LoadedProjects.{LoadedProject}
 use Rattle.b2_generate.specs.Generation.{Generates}
 use Rattle.b2_virtual.specs.Joining.{stands_in, is_same as is_same_step}
 use Rattle.b2_generate.specs.Laws.{AreClosed, IsLawful}
-use Rattle.b2_conversions.specs.Laws.{StandIn}
+use Rattle.b2_making.specs.Laws.{StandIn}
 use Rattle.b2_generate.specs.declared.node.Node.{Node}
 use Rattle.b2_generate.specs.Nodes.{entry_in, given_by, node_in}
 use Rattle.b2_generate.specs.Remembered.{IsAskedAt, AreMade}
@@ -24,7 +24,7 @@ pub stand_more : (steps others : List Step) (more : List Step) → StandIn other
 stand_more steps others more stand step c =
     list_any-append (is_same_step step) others more ∙ either (stands_in others step) (stands_in more step) (stand step c)
 
-module _ {E : Type 0} (l : Loaded E) where
+module _ {E : Type 0} (l : LoadedProject E) where
   pub made_stay : (nodes : List Node) (steps more : List Step) → AreMade l nodes steps → AreMade l nodes (steps ++ more)
   made_stay [] steps more made = record {}
   made_stay (n ∷ older) steps more (own, others) = (

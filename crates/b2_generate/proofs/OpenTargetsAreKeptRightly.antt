@@ -3,8 +3,8 @@ use Rattle.std.proofs.Common.{◌≡◌, ◌<◌, ◌≤◌, ◌==◌, ℕ, Bool
 use Rattle.std.specs.Prelude.{not}
 use Rattle.std.specs.FinMap as finite
 use Rattle.b2_props.specs.Sets.{Pair}
-use Rattle.b2_metatargets.specs.declared.whole.Declared.{Declared}
-use Rattle.b2_metatargets.specs.declared.place.Target.{Target}
+use Rattle.b2_declared.specs.declared.whole.Declared.{Declared}
+use Rattle.b2_declared.specs.declared.place.Target.{Target}
 use Rattle.b2_references.specs.Names.{Name, name_of, is_same, is_among, is_target, alternatives}
 use Rattle.b2_alternatives.specs.Picking.{seen}
 use Rattle.b2_generate.specs.Machine.{frame_of, standing_of, names_of, AreKept}

@@ -6,12 +6,12 @@ use Rattle.b2_references.specs.Names.{Name, is_among, target_text}
 use Rattle.b2_alternatives.specs.Choosing.{Chooses}
 use Rattle.b2_alternatives.specs.Picking.{seen}
 use Rattle.b2_generate.specs.Faults.{Fault, target_cycle}
-use Rattle.b2_generate.specs.Loaded.{Loaded, returned}
+use Rattle.b2_generate.specs.LoadedProjects.{LoadedProject, returned}
 use Rattle.b2_generate.specs.Generation.{Generates, from_first, cycle_of, is_open, choice_refused, refused}
 use Rattle.b2_generate.specs.Machine.{frame_of, names_of}
 use Rattle.b2_generate.specs.Opening.{IsOpened, IsUnchosen}
 use Rattle.b2_generate.specs.Stack.{Waits, IsUnderWay, opened}
-use Rattle.b2_generate.specs.Told.{IfFault, IsRefusal, fault_of}
+use Rattle.b2_generate.specs.ToldOutcomes.{IfFault, IsRefusal, fault_of}
 use Rattle.b2_generate.specs.declared.fault.GenFault.{GenFault}
 use Rattle.b2_generate.specs.declared.fault.GenFault.TheVariants.{TargetCycle}
 use Rattle.b2_generate.specs.declared.frame.Frame.{Frame}
@@ -27,7 +27,7 @@ if_weaker P Q weaker (Some fault) h = weaker fault h
 pub refusal_weaker : {E : Type 0} (is_host is_out : E → Bool) (P Q : Fault E → Type 0) → ((fault : Fault E) → P fault → Q fault) → (fault : GenFault E) → IsRefusal is_host is_out P fault → IsRefusal is_host is_out Q fault
 refusal_weaker is_host is_out P Q weaker fault h = if_weaker P Q weaker (fault_of is_host is_out fault) h
 
-module _ {E : Type 0} (l : Loaded E) (name : Name) (set : List Pair) (start : List Step) (nodes : List Node) (f : Frame) (below : List Frame) (steps : List Step) (needed : Name) (asked : List Pair)
+module _ {E : Type 0} (l : LoadedProject E) (name : Name) (set : List Pair) (start : List Step) (nodes : List Node) (f : Frame) (below : List Frame) (steps : List Step) (needed : Name) (asked : List Pair)
     (way : IsUnderWay l name set start (map (frame_of nodes) (f ∷ below)) steps) (waits : Waits l.declared (frame_of nodes f) needed asked) where
   -- a fault of what is needed is the outcome of the oldest
   needed_falls : (fault : Fault E) → Generates l (opened (map (frame_of nodes) (f ∷ below))) needed asked steps (Err fault) → Generates l [] name set start (Err fault)

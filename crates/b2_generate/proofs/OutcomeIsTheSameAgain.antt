@@ -7,14 +7,14 @@ use Rattle.std.proofs.lemmas.List.Folds.{list_any-append}
 use Rattle.std.proofs.lemmas.List.Elements.{Contains-append_left}
 use Rattle.b2_alternatives.specs.Choosing.{Chooses, Chosen}
 use Rattle.b2_generate.specs.Answers.{Generated, Row}
-use Rattle.b2_generate.specs.Loaded.{Loaded, returned}
+use Rattle.b2_generate.specs.LoadedProjects.{LoadedProject, returned}
 use Rattle.b2_references.specs.Names.{Name, is_among}
 use Rattle.b2_props.specs.Sets.{Pair}
-use Rattle.b2_generate.specs.Standing.{Standing, with_target, at_first, hands_on}
+use Rattle.b2_generate.specs.OpenTargets.{Standing, with_target, at_first, hands_on}
 use Rattle.b2_plan.specs.declared.step.Step.{Step}
 use Rattle.b2_generate.specs.Generation.{Generates, Depends, finished, complete_now, goes_on}
 use Rattle.b2_generate.specs.Laws.{AreClosed, rows_of, IsLawful}
-use Rattle.b2_conversions.specs.Laws.{StandIn}
+use Rattle.b2_making.specs.Laws.{StandIn}
 
 -- ---- lists of rows
 
@@ -57,7 +57,7 @@ rows_append (d ∷ done) more = ap (λ rows. d.1.rows ++ rows) (rows_append done
 front_stands : (later steps more after : List Step) → after ≡ steps ++ more → StandIn later after → StandIn later steps
 front_stands later steps more after is stands step has = stands step (subst (λ (all : List Step). Contains all step) (sym is) (Contains-append_left steps more step has))
 
-module _ {E : Type 0} (l : Loaded E) (laws : IsLawful l) where
+module _ {E : Type 0} (l : LoadedProject E) (laws : IsLawful l) where
   -- ---- steps stay
 
   mutual

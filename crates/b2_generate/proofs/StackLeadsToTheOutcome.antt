@@ -8,13 +8,13 @@ use Rattle.b2_generate.specs.Answers.{Generated, Outcome}
 use Rattle.b2_alternatives.specs.declared.need.Next.TheVariants.{Complete}
 use Rattle.b2_alternatives.specs.declared.conflict.Conflict.{Conflict}
 use Rattle.b2_generate.specs.Faults.{Fault}
-use Rattle.b2_generate.specs.Loaded.{Loaded, returned}
-use Rattle.b2_generate.specs.Standing.{conflict, next}
+use Rattle.b2_generate.specs.LoadedProjects.{LoadedProject, returned}
+use Rattle.b2_generate.specs.OpenTargets.{conflict, next}
 use Rattle.b2_generate.specs.Generation.{Finishes, conflict_fault}
 use Rattle.b2_generate.specs.Generation.{Generates, Depends, not_supplied, finished, complete_now, refused, conflicts, goes_on}
 use Rattle.b2_generate.specs.Stack.{Frame, opened, IsBegun, Waits, IsUnderWay, fresh, supplied}
 
-module _ {E : Type 0} (l : Loaded E) where
+module _ {E : Type 0} (l : LoadedProject E) where
   -- ---- one target
 
   -- a target that is opened has come nowhere yet

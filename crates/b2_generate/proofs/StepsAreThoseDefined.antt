@@ -4,27 +4,27 @@ use Rattle.std.specs.List.{flat_map}
 use Rattle.std.proofs.lemmas.List.{append-nil}
 use Rattle.b2_plan.specs.declared.step.Step.{Step}
 use Rattle.b2_props.specs.Sets.{Pair}
-use Rattle.b2_metatargets.specs.declared.whole.Declared.{Declared}
-use Rattle.b2_evaluation.specs.Answers.{Answers, IsTellable}
+use Rattle.b2_declared.specs.declared.whole.Declared.{Declared}
+use Rattle.b2_evaluator.specs.Answers.{Answers, IsTellable}
 use Rattle.b2_alternatives.specs.Choosing.{Chosen}
 use Rattle.b2_alternatives.specs.Usage.{own_usage, passed_usage}
-use Rattle.b2_conversions.specs.Answers.{IsRefused, Grows}
-use Rattle.b2_conversions.specs.Contexts.{Site}
-use Rattle.b2_conversions.specs.Conversions.{makes}
-use Rattle.b2_conversions.specs.Faults as made
+use Rattle.b2_making.specs.Answers.{IsRefused, Grows}
+use Rattle.b2_making.specs.Contexts.{Site}
+use Rattle.b2_making.specs.Conversions.{makes}
+use Rattle.b2_making.specs.Faults as made
 use Rattle.b2_virtual.specs.declared.entry.Supply.{Supply}
-use Rattle.b2_conversions.specs.declared.fault.MakingFault.{MakingFault}
-use Rattle.b2_conversions.specs.declared.fault.MakingFault.TheVariants.{NoChain, TwoChains, PathClash, LocationOutside, TooManySteps, Eval, OutOfMemory}
+use Rattle.b2_making.specs.declared.fault.MakingFault.{MakingFault}
+use Rattle.b2_making.specs.declared.fault.MakingFault.TheVariants.{NoChain, TwoChains, PathClash, LocationOutside, TooManySteps, Eval, OutOfMemory}
 use Rattle.b2_generate.specs.Faults.{not_made}
 use Rattle.b2_generate.specs.Generation.{site, Finishes}
-use Rattle.b2_generate.specs.Loaded.{Loaded, context}
+use Rattle.b2_generate.specs.LoadedProjects.{LoadedProject, context}
 use Rattle.b2_generate.specs.Making.{AreSupplied, IsHome, given_of, sources_in}
-use Rattle.b2_generate.specs.Standing.{Standing}
+use Rattle.b2_generate.specs.OpenTargets.{Standing}
 use Rattle.b2_generate.specs.Supplies.{final_set}
-use Rattle.b2_generate.specs.Told.{loaded_of, unless, IfFault, IsRefusal}
+use Rattle.b2_generate.specs.ToldOutcomes.{loaded_of, unless, IfFault, IsRefusal}
 use Rattle.b2_generate.specs.declared.fault.GenFault.TheVariants.{NotMade}
 use Rattle.b2_generate.specs.declared.making.Home.{Home}
-use Rattle.b2_generate.specs.declared.making.Supplied.{Supplied}
+use Rattle.b2_generate.specs.declared.making.TargetInput.{TargetInput}
 
 pub grows_none : (roots : List (List ℕ)) (steps : List Step) → Grows roots steps steps
 grows_none roots steps = record { more = []; joined = sym (append-nil steps); housed = record {} }
@@ -45,7 +45,7 @@ site_with c home sources parts order set = record {
   order = order;
 }
 
-pub site_is : {E : Type 0} (l : Loaded E) (c : Chosen) (s : Standing) (home : Home) (given : Supplied) → IsHome l.declared c.target.project home → AreSupplied l.declared c s given
+pub site_is : {E : Type 0} (l : LoadedProject E) (c : Chosen) (s : Standing) (home : Home) (given : TargetInput) → IsHome l.declared c.target.project home → AreSupplied l.declared c s given
     → site_with c home (sources_in given) given.parts given.order given.set ≡ site l c s
 site_is l c s home given at are = λ i. record {
   kind = c.target.kind;
@@ -61,7 +61,7 @@ site_is l c s home given at are = λ i. record {
   order = are.order i;
 }
 
-module _ {E : Type 0} (is_host is_out : E → Bool) (l : Loaded E) (c : Chosen) (s : Standing) (before : List Step) where
+module _ {E : Type 0} (is_host is_out : E → Bool) (l : LoadedProject E) (c : Chosen) (s : Standing) (before : List Step) where
   refused_as : (fault : made.Fault E) → makes (context l) (site l c s) before (Err fault) → Finishes l c s before (Err (not_made fault))
   refused_as fault h = record { made = Err fault; makes = h; is = refl }
 
@@ -82,7 +82,7 @@ module _ {E : Type 0} (is_host is_out : E → Bool) (l : Loaded E) (c : Chosen) 
   refusal OutOfMemory h = record {}
 
 -- what is made is what the target gives
-pub finishes : {E : Type 0} (l : Loaded E) (c : Chosen) (s : Standing) (before after : List Step) (supply : Supply) (usage set : List Pair)
+pub finishes : {E : Type 0} (l : LoadedProject E) (c : Chosen) (s : Standing) (before after : List Step) (supply : Supply) (usage set : List Pair)
     → makes (context l) (site l c s) before (Ok (supply, after)) → set ≡ final_set l.declared c s → usage ≡ own_usage l.declared c.target set ++ passed_usage c.target.kind s.usage
     → Finishes l c s before (Ok (given_of c s (record { set = set; supply = supply; usage = usage }), after))
 finishes l c s before after supply usage set h final used = record {
@@ -99,7 +99,7 @@ finishes l c s before after supply usage set h final used = record {
 }
 
 -- the steps of the code's setting and site are those of the definition
-pub acts_are : {E : Type 0} (d0 d : Declared) (roots : List (List ℕ)) (told : Answers E) (c : Chosen) (s : Standing) (home : Home) (given : Supplied) (sources parts : List Supply) (order : List (List ℕ))
+pub acts_are : {E : Type 0} (d0 d : Declared) (roots : List (List ℕ)) (told : Answers E) (c : Chosen) (s : Standing) (home : Home) (given : TargetInput) (sources parts : List Supply) (order : List (List ℕ))
     → d0 ≡ d → IsHome d c.target.project home → AreSupplied d c s given → sources ≡ sources_in given → parts ≡ given.parts → order ≡ given.order
     → makes (context (loaded_of d0 roots told)) (site_with c home sources parts order given.set) ≡ makes (context (loaded_of d roots told)) (site (loaded_of d roots told) c s)
 acts_are d0 d roots told c s home given sources parts order same at are first second third =

@@ -5,15 +5,15 @@ use Rattle.std.specs.List.{flat_map, list_any}
 use Rattle.std.proofs.lemmas.Bool.{false≢true, eqb-true}
 use Rattle.std.specs.Option.{option_map_or}
 use Rattle.b2_generators.specs.Table.{FileType}
-use Rattle.b2_metatargets.specs.declared.whole.Declared.{Declared}
-use Rattle.b2_metatargets.specs.declared.place.Place.{Place}
+use Rattle.b2_declared.specs.declared.whole.Declared.{Declared}
+use Rattle.b2_declared.specs.declared.place.Place.{Place}
 use Rattle.b2_props.specs.Sets.{Pair, IsSet, value_of, firsts, free_of, written}
 use Rattle.b2_props.specs.Refinement.{refined}
 use Rattle.b2_references.specs.Names.{dir_of, features}
 use Rattle.b2_alternatives.specs.Picking.{seen}
 use Rattle.b2_alternatives.specs.declared.need.Need.{Need}
-use Rattle.b2_alternatives.specs.declared.need.Way.{Way}
-use Rattle.b2_alternatives.specs.declared.need.Way.TheVariants.{Source, Library, Order as OrderWay}
+use Rattle.b2_alternatives.specs.declared.need.NeedKind.{NeedKind}
+use Rattle.b2_alternatives.specs.declared.need.NeedKind.TheVariants.{Source, Library, Order as OrderWay}
 use Rattle.b2_virtual.specs.declared.entry.Supply.{Supply}
 use Rattle.std.proofs.lemmas.List.{append-nil, append_assoc, map-append}
 use Rattle.std.proofs.lemmas.List.Elements.{filter-append}
@@ -44,7 +44,7 @@ one_supplied d nodes f wanted types kept same =
     ap₂ (λ (ts : List FileType) (ns : List Need). supplied ts (map (entry_in nodes) f.done) [] (named_by wanted ns)) same (ap₂ (λ (xs ys : List Need). xs ++ ys) kept.stand.sources kept.stand.properties)
 
 -- a need that is no library is a source where it is a part
-one_same : (way : Way) (x : Need) (xs : List Need) (others : Bool) → (is_library way || others) ≡ false → (others ≡ false → filter (λ n. is_part n.way) xs ≡ filter (λ n. is_source n.way) xs)
+one_same : (way : NeedKind) (x : Need) (xs : List Need) (others : Bool) → (is_library way || others) ≡ false → (others ≡ false → filter (λ n. is_part n.way) xs ≡ filter (λ n. is_source n.way) xs)
     → (if is_part way then x ∷ filter (λ n. is_part n.way) xs else filter (λ n. is_part n.way) xs) ≡ (if is_source way then x ∷ filter (λ n. is_source n.way) xs else filter (λ n. is_source n.way) xs)
 one_same Source x xs others e same = ap (λ ys. x ∷ ys) (same e)
 one_same Library x xs others e same = absurd (false≢true (sym e))

@@ -10,7 +10,7 @@ use Rattle.b2_references.specs.Names.{Name, is_same}
 use Rattle.b2_virtual.specs.declared.entry.Supply.{Supply}
 use Rattle.b2_virtual.specs.Supplies.{file_entry}
 use Rattle.b2_alternatives.specs.declared.need.Need.{Need}
-use Rattle.b2_alternatives.specs.Standing.{is_known, AreKnown}
+use Rattle.b2_alternatives.specs.DependencyWork.{is_known, AreKnown}
 use Rattle.b2_generate.specs.Answers.{Generated}
 use Rattle.b2_generate.specs.Supplies.{Part, of_file, of_target, parts_of, supply_of, supply_list, supplied}
 use Rattle.b2_generate.specs.Gathering.{test_of, named_by, Gathers}
@@ -19,7 +19,7 @@ use Rattle.b2_generate.specs.Nodes.{entry_in}
 use Rattle.b2_generate.specs.Tables.{Table}
 use Rattle.b2_generate.specs.declared.node.Node.{Node}
 use Rattle.b2_generate.specs.declared.supplies.Wanted.{Wanted}
-use Rattle.b2_generate.specs.declared.supplies.Gathered.{Gathered}
+use Rattle.b2_generate.specs.declared.supplies.SuppliesSoFar.{SuppliesSoFar}
 use Rattle.b2_generate.proofs.OlderNodesStay.{node_at, supply_at}
 
 -- ---- lists, one element further
@@ -34,10 +34,10 @@ pub further : {A : Type 0} → (xs : List A) (at : ℕ) (x : A) → at < length 
 further xs at x inside is = ap (λ n. take n xs) (plus_one at) ∙ take-suc xs at x inside ∙ ap (λ y. take at xs ++ y ∷ []) (sym is)
 
 module _ (types : List FileType) (done : List (Name × Generated)) where
-  pub gathers_none : (held : Gathered) → Gathers types done [] held held
+  pub gathers_none : (held : SuppliesSoFar) → Gathers types done [] held held
   gathers_none held = record { adds = λ seen known. (seen, known, λ rest. refl) }
 
-  pub gathers_then : (xs ys : List Part) (a b c : Gathered) → Gathers types done xs a b → Gathers types done ys b c → Gathers types done (xs ++ ys) a c
+  pub gathers_then : (xs ys : List Part) (a b c : SuppliesSoFar) → Gathers types done xs a b → Gathers types done ys b c → Gathers types done (xs ++ ys) a c
   gathers_then xs ys a b c first second = record {
     adds = λ seen known.
         let p = first.adds seen known in
@@ -45,14 +45,14 @@ module _ (types : List FileType) (done : List (Name × Generated)) where
         (q.0, q.1, λ rest. q.2 rest ∙ p.2 (ys ++ rest) ∙ ap (λ zs. a.made ++ supplied types done seen zs) (sym (append_assoc xs ys rest)));
   }
 
-  pub gathers_file : (path : List ℕ) (old new : Gathered) → new.seen ≡ old.seen → new.made ≡ old.made ++ record { entries = file_entry types path ∷ []; carried = [] } ∷ []
+  pub gathers_file : (path : List ℕ) (old new : SuppliesSoFar) → new.seen ≡ old.seen → new.made ≡ old.made ++ record { entries = file_entry types path ∷ []; carried = [] } ∷ []
       → Gathers types done (of_file path ∷ []) old new
   gathers_file path old new same made = record {
     adds = λ seen known.
         (seen, subst (AreKnown seen) (sym same) known, λ rest. ap (λ (held : List Supply). held ++ supplied types done seen rest) made ∙ append_assoc old.made (record { entries = file_entry types path ∷ []; carried = [] } ∷ []) (supplied types done seen rest));
   }
 
-  pub gathers_seen : (name : Name) (held : Gathered) → is_known held.seen name ≡ true → Gathers types done (of_target name ∷ []) held held
+  pub gathers_seen : (name : Name) (held : SuppliesSoFar) → is_known held.seen name ≡ true → Gathers types done (of_target name ∷ []) held held
   gathers_seen name held was = record {
     adds = λ seen known. (
       seen,
@@ -62,7 +62,7 @@ module _ (types : List FileType) (done : List (Name × Generated)) where
     );
   }
 
-  pub gathers_new : (name : Name) (old new : Gathered) → is_known old.seen name ≡ false → ((names : List Name) → AreKnown names old.seen → AreKnown (names ++ name ∷ []) new.seen)
+  pub gathers_new : (name : Name) (old new : SuppliesSoFar) → is_known old.seen name ≡ false → ((names : List Name) → AreKnown names old.seen → AreKnown (names ++ name ∷ []) new.seen)
       → new.made ≡ old.made ++ supply_list (supply_of done name) → Gathers types done (of_target name ∷ []) old new
   gathers_new name old new was more made = record {
     adds = λ seen known. (
@@ -76,7 +76,7 @@ module _ (types : List FileType) (done : List (Name × Generated)) where
   }
 
   -- it supplies nothing
-  pub gathers_bare : (name : Name) (old new : Gathered) → is_known old.seen name ≡ false → ((names : List Name) → AreKnown names old.seen → AreKnown (names ++ name ∷ []) new.seen)
+  pub gathers_bare : (name : Name) (old new : SuppliesSoFar) → is_known old.seen name ≡ false → ((names : List Name) → AreKnown names old.seen → AreKnown (names ++ name ∷ []) new.seen)
       → new.made ≡ old.made → None ≡ supply_of done name → Gathers types done (of_target name ∷ []) old new
   gathers_bare name old new was more made none =
       gathers_new name old new was more (made ∙ sym (nothing old.made) ∙ ap (λ (o : Option Supply). old.made ++ supply_list o) none)
@@ -85,13 +85,13 @@ module _ (types : List FileType) (done : List (Name × Generated)) where
       nothing [] = refl
       nothing (x ∷ xs) = ap (λ ys. x ∷ ys) (nothing xs)
 
-  pub gathers_given : (name : Name) (old new : Gathered) (supply : Supply) → is_known old.seen name ≡ false → ((names : List Name) → AreKnown names old.seen → AreKnown (names ++ name ∷ []) new.seen)
+  pub gathers_given : (name : Name) (old new : SuppliesSoFar) (supply : Supply) → is_known old.seen name ≡ false → ((names : List Name) → AreKnown names old.seen → AreKnown (names ++ name ∷ []) new.seen)
       → new.made ≡ old.made ++ supply ∷ [] → Some supply ≡ supply_of done name → Gathers types done (of_target name ∷ []) old new
   gathers_given name old new supply was more made given =
       gathers_new name old new was more (made ∙ ap (λ (o : Option Supply). old.made ++ supply_list o) given)
 
   -- the next main target of several
-  pub gathers_name : (names : List Name) (at : ℕ) (name : Name) (a b c : Gathered) → at < length names → name ≡ get_or names at name
+  pub gathers_name : (names : List Name) (at : ℕ) (name : Name) (a b c : SuppliesSoFar) → at < length names → name ≡ get_or names at name
       → Gathers types done (map of_target (take at names)) a b → Gathers types done (of_target name ∷ []) b c → Gathers types done (map of_target (take (at + 1) names)) a c
   gathers_name names at name a b c inside is before one =
       subst (λ (parts : List Part). Gathers types done parts a c) (sym (ap (map of_target) (further names at name inside is) ∙ map-append of_target (take at names) (name ∷ [])))
@@ -117,26 +117,26 @@ module _ (types : List FileType) (done : List (Name × Generated)) where
   named_none : (wanted : Wanted) (need : Need) → test_of wanted need.way ≡ false → named_by wanted (need ∷ []) ≡ []
   named_none wanted need e = ap (λ (b : Bool). flat_map (λ (n : Need). parts_of n.meaning) (if b then need ∷ [] else [])) e
 
-  pub gathers_wanted : (wanted : Wanted) (need : Need) (a b : Gathered) → test_of wanted need.way ≡ true → Gathers types done (parts_of need.meaning) a b → Gathers types done (named_by wanted (need ∷ [])) a b
+  pub gathers_wanted : (wanted : Wanted) (need : Need) (a b : SuppliesSoFar) → test_of wanted need.way ≡ true → Gathers types done (parts_of need.meaning) a b → Gathers types done (named_by wanted (need ∷ [])) a b
   gathers_wanted wanted need a b test one = subst (λ (parts : List Part). Gathers types done parts a b) (sym (named_one wanted need test)) one
 
-  pub gathers_unwanted : (wanted : Wanted) (need : Need) (held : Gathered) → test_of wanted need.way ≡ false → Gathers types done (named_by wanted (need ∷ [])) held held
+  pub gathers_unwanted : (wanted : Wanted) (need : Need) (held : SuppliesSoFar) → test_of wanted need.way ≡ false → Gathers types done (named_by wanted (need ∷ [])) held held
   gathers_unwanted wanted need held test = subst (λ (parts : List Part). Gathers types done parts held held) (sym (named_none wanted need test)) (gathers_none held)
 
-  pub gathers_need : (wanted : Wanted) (needs : List Need) (at : ℕ) (need : Need) (a b c : Gathered) → at < length needs → need ≡ get_or needs at need
+  pub gathers_need : (wanted : Wanted) (needs : List Need) (at : ℕ) (need : Need) (a b c : SuppliesSoFar) → at < length needs → need ≡ get_or needs at need
       → Gathers types done (named_by wanted (take at needs)) a b → Gathers types done (named_by wanted (need ∷ [])) b c → Gathers types done (named_by wanted (take (at + 1) needs)) a c
   gathers_need wanted needs at need a b c inside is before one =
       subst (λ (parts : List Part). Gathers types done parts a c) (sym (ap (named_by wanted) (further needs at need inside is) ∙ named_both wanted (take at needs) (need ∷ [])))
       (gathers_then (named_by wanted (take at needs)) (named_by wanted (need ∷ [])) a b c before one)
 
-  pub gathers_names : (names : List Name) (at : ℕ) (a b : Gathered) → length names ≤ at → Gathers types done (map of_target (take at names)) a b → Gathers types done (map of_target names) a b
+  pub gathers_names : (names : List Name) (at : ℕ) (a b : SuppliesSoFar) → length names ≤ at → Gathers types done (map of_target (take at names)) a b → Gathers types done (map of_target names) a b
   gathers_names names at a b past so_far = subst (λ (all : List Name). Gathers types done (map of_target all) a b) (take_all at names past) so_far
 
-  pub gathers_needs : (wanted : Wanted) (needs : List Need) (at : ℕ) (a b : Gathered) → length needs ≤ at → Gathers types done (named_by wanted (take at needs)) a b → Gathers types done (named_by wanted needs) a b
+  pub gathers_needs : (wanted : Wanted) (needs : List Need) (at : ℕ) (a b : SuppliesSoFar) → length needs ≤ at → Gathers types done (named_by wanted (take at needs)) a b → Gathers types done (named_by wanted needs) a b
   gathers_needs wanted needs at a b past so_far = subst (λ (all : List Need). Gathers types done (named_by wanted all) a b) (take_all at needs past) so_far
 
   -- all that is gathered from nothing
-  pub gathers_all : (wanted : Wanted) (xs ys : List Need) (a b c : Gathered) → a.made ≡ [] → AreKnown [] a.seen
+  pub gathers_all : (wanted : Wanted) (xs ys : List Need) (a b c : SuppliesSoFar) → a.made ≡ [] → AreKnown [] a.seen
       → Gathers types done (named_by wanted xs) a b → Gathers types done (named_by wanted ys) b c → c.made ≡ supplied types done [] (named_by wanted (xs ++ ys))
   gathers_all wanted xs ys a b c bare known first second =
       let whole = gathers_then (named_by wanted xs) (named_by wanted ys) a b c first second in

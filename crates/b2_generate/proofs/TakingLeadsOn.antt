@@ -2,25 +2,25 @@
 use Rattle.std.proofs.Common.{◌≡◌, inl, inr, ◌⊎◌, ℕ, Bool, List, [], ◌∷◌, Option, Some, None, Result, Ok, Err, map, refl, sym, ap, subst, ◌∙◌}
 use Rattle.b2_plan.specs.declared.step.Step.{Step}
 use Rattle.b2_props.specs.Sets.{Pair}
-use Rattle.b2_metatargets.specs.declared.whole.Declared.{Declared}
-use Rattle.b2_evaluation.specs.Answers.{Answers}
+use Rattle.b2_declared.specs.declared.whole.Declared.{Declared}
+use Rattle.b2_evaluator.specs.Answers.{Answers}
 use Rattle.b2_references.specs.Names.{Name, target_text}
 use Rattle.b2_alternatives.specs.declared.conflict.Conflict.{Conflict}
-use Rattle.b2_conversions.specs.Answers.{Grows}
+use Rattle.b2_making.specs.Answers.{Grows}
 use Rattle.b2_generate.specs.Clear.{IsClear}
 use Rattle.b2_generate.specs.Faults.{usage_conflict}
 use Rattle.b2_generate.specs.Generation.{Generates}
-use Rattle.b2_generate.specs.Loaded.{Loaded}
+use Rattle.b2_generate.specs.LoadedProjects.{LoadedProject}
 use Rattle.b2_generate.specs.Machine.{frame_of, standing_of, names_of}
 use Rattle.b2_generate.specs.Nodes.{entry_in}
 use Rattle.b2_generate.specs.Opening.{IsConflict}
 use Rattle.b2_generate.specs.Remembered.{IsAskedAt, AreMade}
 use Rattle.b2_generate.specs.Stack as stacks
 use Rattle.b2_generate.specs.Stack.{IsUnderWay, Waits, opened}
-use Rattle.b2_generate.specs.Standing.{conflict}
+use Rattle.b2_generate.specs.OpenTargets.{conflict}
 use Rattle.b2_generate.specs.Tables.{Table}
 use Rattle.b2_generate.specs.Taking.{IsTaken}
-use Rattle.b2_generate.specs.Told.{loaded_of}
+use Rattle.b2_generate.specs.ToldOutcomes.{loaded_of}
 use Rattle.b2_generate.specs.Turning.{IsTurn}
 use Rattle.b2_generate.specs.declared.fault.GenFault.{GenFault}
 use Rattle.b2_generate.specs.declared.fault.GenFault.TheVariants.{OutOfMemory, UsageConflict}
@@ -63,7 +63,7 @@ module _ (nodes : List Node) (f : Frame) (below : List Frame)
   pub entry_named : (entry_in nodes place).0 ≡ needed
   entry_named = (entry_is nodes place at.node at.there).name ∙ at.named
 
-  module _ {E : Type 0} (l : Loaded E) (name : Name) (set : List Pair) (start : List Step) (steps : List Step)
+  module _ {E : Type 0} (l : LoadedProject E) (name : Name) (set : List Pair) (start : List Step) (steps : List Step)
       (way : IsUnderWay l name set start (map (frame_of nodes) (f ∷ below)) steps) (made : AreMade l nodes steps) (waits : Waits l.declared (frame_of nodes f) needed asked) where
     again : Generates l (opened (map (frame_of nodes) (f ∷ below))) needed asked steps (Ok ((entry_in nodes place).1, steps))
     again =

@@ -9,52 +9,52 @@ use Rattle.b2_alternatives.specs.declared.conflict.Conflict.{Conflict}
 use Rattle.b2_generate.specs.Faults.{no_target, not_chosen}
 use Rattle.b2_generate.specs.Generation.{Finishes, conflict_fault, cycle_of}
 use Rattle.b2_generate.specs.Answers.{Generated, Outcome}
-use Rattle.b2_generate.specs.Loaded.{Loaded, returned}
+use Rattle.b2_generate.specs.LoadedProjects.{LoadedProject, returned}
 use Rattle.b2_references.specs.Names.{Name, is_among}
 use Rattle.b2_props.specs.Sets.{Pair}
-use Rattle.b2_generate.specs.Standing.{Standing, with_target, at_first, conflict, hands_on, next}
+use Rattle.b2_generate.specs.OpenTargets.{Standing, with_target, at_first, conflict, hands_on, next}
 use Rattle.b2_plan.specs.declared.step.Step.{Step}
 use Rattle.b2_generate.specs.Generation.{Generates, Depends, is_open, choice_refused, not_supplied, finished, complete_now, names_nothing, refused, conflicts, goes_on}
 
 -- what is settled once
-pub record IsSettled {E : Type 0} (l : Loaded E) : Type 0 where
+pub record IsSettled {E : Type 0} (l : LoadedProject E) : Type 0 where
   pub one_choice : (name : Name) (set : List Pair) (a b : Result Chosen (ChoiceFault E)) → Chooses l.declared (returned l) name set a → Chooses l.declared (returned l) name set b → a ≡ b
   pub one_end : (c : Chosen) (s : Standing) (before : List Step) (a b : Outcome E Generated) → Finishes l c s before a → Finishes l c s before b → a ≡ b
 
-abbrev pub EndsIn : {E : Type 0} → Loaded E → Chosen → Outcome E Standing → Outcome E Generated → Type 0
+abbrev pub EndsIn : {E : Type 0} → LoadedProject E → Chosen → Outcome E Standing → Outcome E Generated → Type 0
 EndsIn l c (Ok (stands, steps)) outcome = Finishes l c stands steps outcome
 EndsIn l c (Err fault) outcome = outcome ≡ Err fault
 
 -- how a target comes to its outcome
-pub data Ways {E : Type 0} (l : Loaded E) (above : List Name) (name : Name) (set : List Pair) (before : List Step) (outcome : Outcome E Generated) : Type 0 where
+pub data Ways {E : Type 0} (l : LoadedProject E) (above : List Name) (name : Name) (set : List Pair) (before : List Step) (outcome : Outcome E Generated) : Type 0 where
   open_way : is_among above name ≡ true → outcome ≡ Err (cycle_of l name above) → Ways l above name set before outcome
   refused_way : (fault : ChoiceFault E) → is_among above name ≡ false → Chooses l.declared (returned l) name set (Err fault) → outcome ≡ Err (not_chosen fault) → Ways l above name set before outcome
   chosen_way : (c : Chosen) (needed : Outcome E Standing) → is_among above name ≡ false → Chooses l.declared (returned l) name set (Ok c) → Depends l (above ++ name ∷ []) c (at_first c) before needed
       → EndsIn l c needed outcome → Ways l above name set before outcome
 
-pub ways : {E : Type 0} (l : Loaded E) (above : List Name) (name : Name) (set : List Pair) (before : List Step) (outcome : Outcome E Generated)
+pub ways : {E : Type 0} (l : LoadedProject E) (above : List Name) (name : Name) (set : List Pair) (before : List Step) (outcome : Outcome E Generated)
     → Generates l above name set before outcome → Ways l above name set before outcome
 ways l above name set before outcome (is_open _ _ _ _ is) = open_way is refl
 ways l above name set before outcome (choice_refused _ _ _ _ fault closed chooses) = refused_way fault closed chooses refl
 ways l above name set before outcome (not_supplied _ _ _ _ c fault closed chooses depends) = chosen_way c (Err fault) closed chooses depends refl
 ways l above name set before outcome (finished _ _ _ _ between c stands _ closed chooses depends finishes) = chosen_way c (Ok (stands, between)) closed chooses depends finishes
 
-abbrev AfterMet : {E : Type 0} → Loaded E → List Name → Chosen → Standing → Name → Generated → List Step → Option Conflict → Outcome E Standing → Type 0
+abbrev AfterMet : {E : Type 0} → LoadedProject E → List Name → Chosen → Standing → Name → Generated → List Step → Option Conflict → Outcome E Standing → Type 0
 AfterMet l above c s name given between (Some found) outcome = outcome ≡ Err (conflict_fault l c found)
 AfterMet l above c s name given between None outcome = Depends l above c (with_target l.declared s name given) between outcome
 
-abbrev GoesIn : {E : Type 0} → Loaded E → List Name → Chosen → Standing → Name → Outcome E Generated → Outcome E Standing → Type 0
+abbrev GoesIn : {E : Type 0} → LoadedProject E → List Name → Chosen → Standing → Name → Outcome E Generated → Outcome E Standing → Type 0
 GoesIn l above c s name (Err fault) outcome = outcome ≡ Err fault
 GoesIn l above c s name (Ok (given, between)) outcome = AfterMet l above c s name given between (conflict l.declared s given) outcome
 
 -- how step 3 goes on
-data Courses {E : Type 0} (l : Loaded E) (above : List Name) (c : Chosen) (s : Standing) (before : List Step) (outcome : Outcome E Standing) : Type 0 where
+data Courses {E : Type 0} (l : LoadedProject E) (above : List Name) (c : Chosen) (s : Standing) (before : List Step) (outcome : Outcome E Standing) : Type 0 where
   ends_here : next l.declared c s ≡ Complete → outcome ≡ Ok (s, before) → Courses l above c s before outcome
   nothing_here : (text : List ℕ) → next l.declared c s ≡ Missing text → outcome ≡ Err (no_target text) → Courses l above c s before outcome
   due_here : (name : Name) (made : Outcome E Generated) → next l.declared c s ≡ Due name → Generates l above name (hands_on l.declared s) before made
       → GoesIn l above c s name made outcome → Courses l above c s before outcome
 
-courses : {E : Type 0} (l : Loaded E) (above : List Name) (c : Chosen) (s : Standing) (before : List Step) (outcome : Outcome E Standing)
+courses : {E : Type 0} (l : LoadedProject E) (above : List Name) (c : Chosen) (s : Standing) (before : List Step) (outcome : Outcome E Standing)
     → Depends l above c s before outcome → Courses l above c s before outcome
 courses l above c s before outcome (complete_now _ _ _ _ is) = ends_here is refl
 courses l above c s before outcome (names_nothing _ _ _ _ text is) = nothing_here text is refl
@@ -76,7 +76,7 @@ abbrev is_chosen : {E : Type 0} → Result Chosen (ChoiceFault E) → Bool
 is_chosen (Ok found) = true
 is_chosen (Err fault) = false
 
-module _ {E : Type 0} (l : Loaded E) (settled : IsSettled l) where
+module _ {E : Type 0} (l : LoadedProject E) (settled : IsSettled l) where
   module _ (above : List Name) (name : Name) (set : List Pair) (before : List Step) (b : Outcome E Generated) where
     of_open : is_among above name ≡ true → Ways l above name set before b → Err (cycle_of l name above) ≡ b
     of_open is (open_way _ e) = sym e

@@ -4,24 +4,24 @@ use Rattle.std.proofs.lemmas.List.{reverse-append}
 use Rattle.std.proofs.lemmas.Bool.{eqb-true}
 use Rattle.b2_plan.specs.declared.step.Step.{Step}
 use Rattle.b2_props.specs.Sets.{Pair}
-use Rattle.b2_metatargets.specs.declared.whole.Declared.{Declared}
-use Rattle.b2_evaluation.specs.Answers.{Answers}
+use Rattle.b2_declared.specs.declared.whole.Declared.{Declared}
+use Rattle.b2_evaluator.specs.Answers.{Answers}
 use Rattle.b2_references.specs.Names.{Name, name_of}
 use Rattle.b2_alternatives.specs.Picking.{seen}
 use Rattle.b2_alternatives.specs.Needs as needs
-use Rattle.b2_alternatives.specs.Standing.{StandAt}
+use Rattle.b2_alternatives.specs.DependencyWork.{StandAt}
 use Rattle.b2_alternatives.specs.declared.need.Next.{Next}
 use Rattle.b2_alternatives.specs.declared.dependencies.Dependencies.{Dependencies}
-use Rattle.b2_conversions.specs.Answers.{Grows}
+use Rattle.b2_making.specs.Answers.{Grows}
 use Rattle.b2_generate.specs.Generation.{Generates}
 use Rattle.b2_generate.specs.Machine.{frame_of, standing_of, IsKept, AreKept}
 use Rattle.b2_generate.specs.Measure.{turns_left}
 use Rattle.b2_generate.specs.Nodes.{entry_in, node_in, AreAdded}
 use Rattle.b2_generate.specs.Remembered.{AreMade}
 use Rattle.b2_generate.specs.Stack.{IsUnderWay}
-use Rattle.b2_generate.specs.Standing.{next, under}
+use Rattle.b2_generate.specs.OpenTargets.{next, under}
 use Rattle.b2_generate.specs.Tables.{Table}
-use Rattle.b2_generate.specs.Told.{loaded_of, IsRefusal, Leaves}
+use Rattle.b2_generate.specs.ToldOutcomes.{loaded_of, IsRefusal, Leaves}
 use Rattle.b2_generate.specs.Turning.{IsTurn, IsTurned, GoOn, IsOver, turns_of}
 use Rattle.b2_generate.specs.declared.fault.GenFault.{GenFault}
 use Rattle.b2_generate.specs.declared.fault.GenFault.TheVariants.{OutOfMemory}

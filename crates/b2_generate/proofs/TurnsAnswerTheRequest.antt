@@ -3,24 +3,24 @@ use Rattle.std.proofs.Common.{◌≡◌, ◌<◌, ℕ, Bool, List, [], ◌∷◌
 use Rattle.std.specs.FinMap as finite
 use Rattle.b2_plan.specs.declared.step.Step.{Step}
 use Rattle.b2_props.specs.Sets.{Pair}
-use Rattle.b2_metatargets.specs.declared.whole.Declared.{Declared}
-use Rattle.b2_evaluation.specs.Answers.{Answers}
+use Rattle.b2_declared.specs.declared.whole.Declared.{Declared}
+use Rattle.b2_evaluator.specs.Answers.{Answers}
 use Rattle.b2_base.specs.Counts.{IsCounted}
 use Rattle.b2_references.specs.Names.{Name}
 use Rattle.b2_alternatives.specs.Choosing.{Chooses}
 use Rattle.b2_alternatives.specs.Picking.{seen}
-use Rattle.b2_conversions.specs.Answers.{Grows}
-use Rattle.b2_conversions.proofs.PromisesCompose.{grows_then}
+use Rattle.b2_making.specs.Answers.{Grows}
+use Rattle.b2_making.proofs.PromisesCompose.{grows_then}
 use Rattle.b2_generate.specs.Faults.{Fault}
 use Rattle.b2_generate.specs.Generation.{Generates, choice_refused}
-use Rattle.b2_generate.specs.Loaded.{Loaded, returned}
+use Rattle.b2_generate.specs.LoadedProjects.{LoadedProject, returned}
 use Rattle.b2_generate.specs.Machine.{frame_of, AreKept}
 use Rattle.b2_generate.specs.Nodes.{IsFrom, first_in, AreAdded}
 use Rattle.b2_generate.specs.Opening.{AreReady, IsOpened, IsUnchosen}
 use Rattle.b2_generate.specs.Remembered.{AreMade}
 use Rattle.b2_generate.specs.Stack.{IsUnderWay}
 use Rattle.b2_generate.specs.Tables.{Table}
-use Rattle.b2_generate.specs.Told.{loaded_of, IsRefusal, is_eval, is_memory, IsKnown, Leaves}
+use Rattle.b2_generate.specs.ToldOutcomes.{loaded_of, IsRefusal, is_eval, is_memory, IsKnown, Leaves}
 use Rattle.b2_generate.specs.Turning.{IsTurn, IsRequest, turns_of}
 use Rattle.b2_generate.specs.declared.fault.GenFault.{GenFault}
 use Rattle.b2_generate.specs.declared.fault.GenFault.TheVariants.{OutOfMemory}
@@ -73,7 +73,7 @@ module _ {S E K : Type 0} {answers : S → Option (Answers E)} {kept : S → K} 
       request_stops {T = ℕ} r OutOfMemory e grows (λ answered is made. record {}) (record { same_answers = told; same_kept = held; counted = record {}; known = record {} })
 
 -- no alternative is settled on
-pub unchosen_first : {E : Type 0} (is_host is_out : E → Bool) (l : Loaded E) (name : Name) (set : List Pair) (start : List Step) (fault : GenFault E)
+pub unchosen_first : {E : Type 0} (is_host is_out : E → Bool) (l : LoadedProject E) (name : Name) (set : List Pair) (start : List Step) (fault : GenFault E)
     → IsRefusal is_host is_out (IsUnchosen l.declared (returned l) name set) fault → IsRefusal is_host is_out (λ why. Generates l [] name set start (Err why)) fault
 unchosen_first {E} is_host is_out l name set start fault h =
     refusal_weaker is_host is_out (IsUnchosen l.declared (returned l) name set) (λ why. Generates l [] name set start (Err why))

@@ -1,7 +1,7 @@
 -- Why a request has no plan.
 use Rattle.std.specs.Prelude.{ℕ, List}
 use Rattle.b2_alternatives.specs.declared.fault.ChoiceFault.{ChoiceFault}
-use Rattle.b2_conversions.specs.Faults.{Fault as Making}
+use Rattle.b2_making.specs.Faults.{Fault as Making}
 
 -- The first refusal. Targets are written as in the table of main targets. `E` is why a rule of the project, or the text of a
 -- step, has no value.

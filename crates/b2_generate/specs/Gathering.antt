@@ -3,9 +3,9 @@ use Rattle.std.specs.Prelude.{◌≡◌, Bool, List, [], ◌++◌, filter, map}
 use Rattle.std.specs.List.{flat_map}
 use Rattle.b2_generators.specs.Table.{FileType}
 use Rattle.b2_references.specs.Names.{Name}
-use Rattle.b2_alternatives.specs.declared.need.Way.{Way}
+use Rattle.b2_alternatives.specs.declared.need.NeedKind.{NeedKind}
 use Rattle.b2_alternatives.specs.declared.need.Need.{Need}
-use Rattle.b2_alternatives.specs.Standing.{AreKnown}
+use Rattle.b2_alternatives.specs.DependencyWork.{AreKnown}
 use Rattle.b2_virtual.specs.declared.entry.Supply.{Supply}
 use Rattle.b2_generate.specs.Answers.{Generated}
 use Rattle.b2_generate.specs.Nodes.{entry_in}
@@ -14,9 +14,9 @@ use Rattle.b2_generate.specs.declared.frame.Frame.{Frame}
 use Rattle.b2_generate.specs.declared.node.Node.{Node}
 use Rattle.b2_generate.specs.declared.supplies.Wanted.{Wanted}
 use Rattle.b2_generate.specs.declared.supplies.Wanted.TheVariants.{Sources, Parts, Order}
-use Rattle.b2_generate.specs.declared.supplies.Gathered.{Gathered}
+use Rattle.b2_generate.specs.declared.supplies.SuppliesSoFar.{SuppliesSoFar}
 
-abbrev pub test_of : Wanted → Way → Bool
+abbrev pub test_of : Wanted → NeedKind → Bool
 test_of Sources = is_source
 test_of Parts = is_part
 test_of Order = is_order
@@ -30,7 +30,7 @@ abbrev pub supplied_to : List FileType → List Node → Frame → Wanted → Li
 supplied_to types nodes f wanted = supplied types (map (entry_in nodes) f.done) [] (named_by wanted (f.needs.sources.needs ++ f.needs.properties.needs))
 
 -- What some parts supply was added, where others were looked at before; whatever follows them, both together supply the same.
-pub record Gathers (types : List FileType) (done : List (Name × Generated)) (parts : List Part) (old new : Gathered) : Type 0 where
+pub record Gathers (types : List FileType) (done : List (Name × Generated)) (parts : List Part) (old new : SuppliesSoFar) : Type 0 where
   pub adds : (seen : List Name) → AreKnown seen old.seen →
       (after : List Name) × AreKnown after new.seen
       × ((rest : List Part) → new.made ++ supplied types done after rest ≡ old.made ++ supplied types done seen (parts ++ rest))

@@ -1,14 +1,14 @@
 -- A generation under way, with its open main targets.
 use Rattle.std.specs.Prelude.{ℕ, Bool, List, Option, Result, reverse}
 use Rattle.b2_props.specs.Sets.{Pair}
-use Rattle.b2_evaluation.specs.Answers.{Answers}
+use Rattle.b2_evaluator.specs.Answers.{Answers}
 use Rattle.b2_references.specs.Names.{Name}
 use Rattle.b2_alternatives.specs.Picking.{seen}
 use Rattle.b2_alternatives.specs.declared.need.Next.{Next}
 use Rattle.b2_generate.specs.Machine.{frame_of, standing_of, AreKept}
 use Rattle.b2_generate.specs.Opening.{frames, AreReady}
 use Rattle.b2_generate.specs.Stack.{Waits}
-use Rattle.b2_generate.specs.Standing.{next}
+use Rattle.b2_generate.specs.OpenTargets.{next}
 use Rattle.b2_generate.specs.Turning.{IsTurn, IsRequest}
 use Rattle.b2_generate.specs.declared.fault.GenFault.{GenFault}
 use Rattle.b2_generate.specs.declared.generation.Generation.{Generation}

@@ -11,14 +11,14 @@ use Rattle.b2_alternatives.specs.declared.need.Next.TheVariants.{Complete, Missi
 use Rattle.b2_alternatives.specs.declared.conflict.Conflict.{Conflict}
 use Rattle.b2_alternatives.specs.Usage.{own_usage, passed_usage}
 use Rattle.b2_virtual.specs.declared.entry.Supply.{Supply}
-use Rattle.b2_conversions.specs.Acts as making
-use Rattle.b2_conversions.specs.Contexts.{Site}
-use Rattle.b2_conversions.specs.Conversions.{makes}
+use Rattle.b2_making.specs.Acts as making
+use Rattle.b2_making.specs.Contexts.{Site}
+use Rattle.b2_making.specs.Conversions.{makes}
 use Rattle.b2_virtual.specs.Supplies.{entries_of}
 use Rattle.b2_generate.specs.Faults.{Fault, target_cycle, usage_conflict, no_target, not_chosen, not_made}
-use Rattle.b2_generate.specs.Loaded.{Loaded, returned, context}
+use Rattle.b2_generate.specs.LoadedProjects.{LoadedProject, returned, context}
 use Rattle.b2_generate.specs.Answers.{Row, Generated, Outcome}
-use Rattle.b2_generate.specs.Standing.{Standing, at_first, next, conflict, with_target, hands_on}
+use Rattle.b2_generate.specs.OpenTargets.{Standing, at_first, next, conflict, with_target, hands_on}
 use Rattle.b2_generate.specs.Supplies.{is_source, is_part, is_order, supplied_by, final_set}
 
 -- the open targets from one of them on
@@ -26,7 +26,7 @@ abbrev pub from_first : Name → List Name → List Name
 from_first name [] = []
 from_first name (other ∷ more) = if is_same name other then other ∷ more else from_first name more
 
-module _ {E : Type 0} (l : Loaded E) where
+module _ {E : Type 0} (l : LoadedProject E) where
   abbrev pub cycle_of : Name → List Name → Fault E
   cycle_of name above = target_cycle (map (target_text l.declared) (from_first name above))
 
@@ -85,7 +85,7 @@ mutual
   -- A main target is generated with a set while these are open, and its steps join those before. A target that is open already is
   -- a cycle. Else an alternative and its set are chosen, what it depends on is generated while it is open too, and its steps are made.
   -- The first refusal is the outcome.
-  pub data Generates {E : Type 0} (l : Loaded E) : List Name → Name → List Pair → List Step → Outcome E Generated → Type 0 where
+  pub data Generates {E : Type 0} (l : LoadedProject E) : List Name → Name → List Pair → List Step → Outcome E Generated → Type 0 where
     is_open : (above : List Name) (name : Name) (set : List Pair) (before : List Step) →
         is_among above name ≡ true →
         Generates l above name set before (Err (cycle_of l name above))
@@ -104,7 +104,7 @@ mutual
   -- The dependencies that are left, from where it stands. Where nothing is next it is complete. A text that names nothing is refused.
   -- A main target that is due is generated with what the set so far hands on; then its usage requirements must go with those before,
   -- and the next one is looked for.
-  pub data Depends {E : Type 0} (l : Loaded E) : List Name → Chosen → Standing → List Step → Outcome E Standing → Type 0 where
+  pub data Depends {E : Type 0} (l : LoadedProject E) : List Name → Chosen → Standing → List Step → Outcome E Standing → Type 0 where
     complete_now : (above : List Name) (chosen : Chosen) (stands : Standing) (before : List Step) →
         next l.declared chosen stands ≡ Complete →
         Depends l above chosen stands before (Ok (stands, before))

@@ -10,8 +10,8 @@
 
 pub mod Faults
 pub mod Answers
-pub mod Loaded
-pub mod Standing
+pub mod LoadedProjects
+pub mod OpenTargets
 pub mod Supplies
 pub mod Generation
 pub mod Stack
@@ -21,7 +21,7 @@ pub mod Laws
 pub mod Tables
 pub mod Nodes
 pub mod Machine
-pub mod Told
+pub mod ToldOutcomes
 pub mod Remembered
 pub mod Gathering
 pub mod Opening

@@ -2,11 +2,11 @@
 use Rattle.std.specs.Prelude.{◌≡◌, ◌<◌, ℕ, false, List, [], ◌∷◌, ◌++◌, Option, Some, None, map, length, if◌then◌else◌}
 use Rattle.std.specs.List.{AllByRecursion}
 use Rattle.std.specs.FinMap as finite
-use Rattle.b2_metatargets.specs.declared.whole.Declared.{Declared}
+use Rattle.b2_declared.specs.declared.whole.Declared.{Declared}
 use Rattle.b2_references.specs.Names.{Name, is_same, is_among}
 use Rattle.b2_alternatives.specs.Picking.{seen}
-use Rattle.b2_alternatives.specs.Standing.{StandAt}
-use Rattle.b2_generate.specs.Standing.{Standing, under}
+use Rattle.b2_alternatives.specs.DependencyWork.{StandAt}
+use Rattle.b2_generate.specs.OpenTargets.{Standing, under}
 use Rattle.b2_generate.specs.Stack as stacks
 use Rattle.b2_generate.specs.Nodes.{entry_in, AreLate}
 use Rattle.b2_generate.specs.Tables.{Table}

@@ -1,7 +1,7 @@
 -- How much is left to be done at most: a bound on the turns of generation.
 use Rattle.std.specs.Prelude.{ℕ, zero, suc, ◌+◌, ◌*◌, List, [], ◌∷◌, ◌++◌, length, map, if◌then◌else◌}
 use Rattle.b2_references.specs.Names.{Name, is_among}
-use Rattle.b2_generate.specs.Standing.{Standing}
+use Rattle.b2_generate.specs.OpenTargets.{Standing}
 use Rattle.b2_generate.specs.Stack.{Frame, opened}
 
 -- how many of all names are not among some

@@ -2,15 +2,15 @@
 use Rattle.std.specs.Prelude.{◌≡◌, ◌⊎◌, ℕ, true, List, [], ◌∷◌, ◌++◌, Option, Some, None, Result, Ok, Err, IfOk, IfErr, OnOk, map, reverse}
 use Rattle.std.specs.FinMap as finite
 use Rattle.b2_props.specs.Sets.{Pair}
-use Rattle.b2_metatargets.specs.declared.whole.Declared.{Declared}
+use Rattle.b2_declared.specs.declared.whole.Declared.{Declared}
 use Rattle.b2_references.specs.Names.{Name, is_target, target_text}
-use Rattle.b2_evaluation.specs.Answers.{Answers}
-use Rattle.b2_evaluation.specs.declared.evaluate.Evaluate.{Ghosts as Evaluate}
+use Rattle.b2_evaluator.specs.Answers.{Answers}
+use Rattle.b2_evaluator.specs.declared.evaluate.Evaluate.{Ghosts as Evaluate}
 use Rattle.b2_alternatives.specs.Choosing.{Chooses, Returned}
 use Rattle.b2_alternatives.specs.Needs.{at_first}
 use Rattle.b2_alternatives.specs.Picking.{seen}
-use Rattle.b2_metatargets.specs.Numbered.{IsNumbered}
-use Rattle.b2_alternatives.specs.Standing.{StandAt}
+use Rattle.b2_declared.specs.Numbered.{IsNumbered}
+use Rattle.b2_alternatives.specs.DependencyWork.{StandAt}
 use Rattle.b2_alternatives.specs.declared.asker.Asker.{Asker}
 use Rattle.b2_alternatives.specs.declared.conflict.Conflict.{Conflict}
 use Rattle.b2_alternatives.specs.declared.fault.ChoiceFault.{ChoiceFault}
@@ -19,7 +19,7 @@ use Rattle.b2_generate.specs.Faults.{Fault, not_chosen}
 use Rattle.b2_generate.specs.Generation.{from_first}
 use Rattle.b2_generate.specs.Nodes.{row_of, first_in, AreDated}
 use Rattle.b2_generate.specs.Tables.{Table}
-use Rattle.b2_generate.specs.Told.{IsRefusal}
+use Rattle.b2_generate.specs.ToldOutcomes.{IsRefusal}
 use Rattle.b2_generate.specs.declared.node.Node.{Node}
 use Rattle.b2_generate.specs.declared.frame.Frame.{Frame}
 use Rattle.b2_generate.specs.declared.stack.Stack.{Stack}

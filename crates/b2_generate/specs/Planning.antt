@@ -4,13 +4,13 @@ use Rattle.std.specs.List.{flat_map}
 use Rattle.std.specs.Cmp.Lexicographic.{pointwise}
 use Rattle.b2_plan.specs.declared.step.Step.{Step}
 use Rattle.b2_props.specs.Sets.{Pair, same}
-use Rattle.b2_metatargets.specs.declared.whole.Declared.{Declared}
+use Rattle.b2_declared.specs.declared.whole.Declared.{Declared}
 use Rattle.b2_references.specs.Names.{Name, is_same, target_text}
 use Rattle.b2_references.specs.Requests.{asked}
-use Rattle.b2_references.specs.declared.asked.Asked.{Asked}
-use Rattle.b2_references.specs.declared.asked.Asked.TheVariants.{Main, NoTarget}
+use Rattle.b2_references.specs.declared.asked.AskedPiece.{AskedPiece}
+use Rattle.b2_references.specs.declared.asked.AskedPiece.TheVariants.{Main, NoTarget}
 use Rattle.b2_generate.specs.Faults.{Fault, no_target}
-use Rattle.b2_generate.specs.Loaded.{Loaded}
+use Rattle.b2_generate.specs.LoadedProjects.{LoadedProject}
 use Rattle.b2_generate.specs.Answers.{Row, Generated, Outcome}
 use Rattle.b2_generate.specs.Generation.{Generates}
 
@@ -43,17 +43,17 @@ first_rows (row ∷ more) = row ∷ filter (λ other. not (is_same_row row other
 abbrev pub line : Declared → Row → Line
 line d row = record { target = target_text d row.name; alternative = row.alternative; set = row.set }
 
-module _ {E : Type 0} (l : Loaded E) where
+module _ {E : Type 0} (l : LoadedProject E) where
   -- What a request asks for is generated in order, each with the steps that were joined for those before. A word that names nothing
   -- is refused in its turn. The first refusal is the outcome.
-  pub data Answers : List Asked → List Step → Outcome E (List Generated) → Type 0 where
+  pub data Answers : List AskedPiece → List Step → Outcome E (List Generated) → Type 0 where
     all_given : (before : List Step) → Answers [] before (Ok ([], before))
-    names_nothing : (word : List ℕ) (more : List Asked) (before : List Step) → Answers (NoTarget word ∷ more) before (Err (no_target word))
-    refused : (name : Name) (set : List Pair) (more : List Asked) (before : List Step) (fault : Fault E) →
+    names_nothing : (word : List ℕ) (more : List AskedPiece) (before : List Step) → Answers (NoTarget word ∷ more) before (Err (no_target word))
+    refused : (name : Name) (set : List Pair) (more : List AskedPiece) (before : List Step) (fault : Fault E) →
         Generates l [] name set before (Err fault) → Answers (Main name set ∷ more) before (Err fault)
-    refused_later : (name : Name) (set : List Pair) (more : List Asked) (before between : List Step) (given : Generated) (fault : Fault E) →
+    refused_later : (name : Name) (set : List Pair) (more : List AskedPiece) (before between : List Step) (given : Generated) (fault : Fault E) →
         Generates l [] name set before (Ok (given, between)) → Answers more between (Err fault) → Answers (Main name set ∷ more) before (Err fault)
-    given : (name : Name) (set : List Pair) (more : List Asked) (before between after : List Step) (first : Generated) (others : List Generated) →
+    given : (name : Name) (set : List Pair) (more : List AskedPiece) (before between after : List Step) (first : Generated) (others : List Generated) →
         Generates l [] name set before (Ok (first, between)) → Answers more between (Ok (others, after)) →
         Answers (Main name set ∷ more) before (Ok (first ∷ others, after))
 

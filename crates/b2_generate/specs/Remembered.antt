@@ -3,9 +3,9 @@ use Rattle.std.specs.Prelude.{◌≡◌, ℕ, List, [], ◌∷◌, Some, Ok}
 use Rattle.b2_references.specs.Names.{Name}
 use Rattle.b2_props.specs.Sets.{Pair}
 use Rattle.b2_plan.specs.declared.step.Step.{Step}
-use Rattle.b2_generate.specs.Loaded.{Loaded}
+use Rattle.b2_generate.specs.LoadedProjects.{LoadedProject}
 use Rattle.b2_generate.specs.Generation.{Generates}
-use Rattle.b2_conversions.specs.Laws.{StandIn}
+use Rattle.b2_making.specs.Laws.{StandIn}
 use Rattle.b2_generate.specs.Nodes.{given_by, node_in}
 use Rattle.b2_generate.specs.declared.node.Node.{Node}
 
@@ -16,7 +16,7 @@ pub record IsAskedAt (nodes : List Node) (place : ℕ) (name : Name) (set : List
   pub named : node.name ≡ name
   pub asked : node.asked ≡ set
 
-module _ {E : Type 0} (l : Loaded E) where
+module _ {E : Type 0} (l : LoadedProject E) where
   -- what a node gives was generated, and its steps stand among these
   pub record IsMade (older : List Node) (n : Node) (steps : List Step) : Type 0 where
     pub above : List Name

@@ -5,10 +5,10 @@ use Rattle.b2_props.specs.Sets.{Pair}
 use Rattle.b2_plan.specs.declared.step.Step.{Step}
 use Rattle.b2_alternatives.specs.Choosing.{Chooses, Chosen}
 use Rattle.b2_generate.specs.Answers.{Generated, Outcome}
-use Rattle.b2_generate.specs.Standing.{Standing, with_target, at_first, hands_on, next}
+use Rattle.b2_generate.specs.OpenTargets.{Standing, with_target, at_first, hands_on, next}
 use Rattle.b2_alternatives.specs.declared.need.Next.TheVariants.{Due}
-use Rattle.b2_metatargets.specs.declared.whole.Declared.{Declared}
-use Rattle.b2_generate.specs.Loaded.{Loaded, returned}
+use Rattle.b2_declared.specs.declared.whole.Declared.{Declared}
+use Rattle.b2_generate.specs.LoadedProjects.{LoadedProject, returned}
 use Rattle.b2_generate.specs.Generation.{Depends}
 
 -- an open target: its name, the set that it was asked for with, what was chosen for it, and where it stands
@@ -36,7 +36,7 @@ pub record Waits (d : Declared) (f : Frame) (name : Name) (asked : List Pair) : 
   pub due : next d f.chosen f.stands ≡ Due name
   pub handed : asked ≡ hands_on d f.stands
 
-module _ {E : Type 0} (l : Loaded E) where
+module _ {E : Type 0} (l : LoadedProject E) where
   -- A target was opened while others are open: it was chosen, and what follows from where it stands with these steps follows from
   -- its beginning with the steps before.
   pub record IsBegun (above : List Name) (f : Frame) (before steps : List Step) : Type 0 where

@@ -8,31 +8,31 @@ use Rattle.b2_references.specs.Names.{Name, is_same, is_among, features}
 use Rattle.b2_references.specs.declared.meaning.Meaning.{Meaning}
 use Rattle.b2_references.specs.declared.meaning.Meaning.TheVariants.{File, Targets, Nothing}
 use Rattle.b2_alternatives.specs.Choosing.{Chosen}
-use Rattle.b2_alternatives.specs.declared.need.Way.{Way}
+use Rattle.b2_alternatives.specs.declared.need.NeedKind.{NeedKind}
 use Rattle.b2_alternatives.specs.Needs.{needs}
-use Rattle.b2_alternatives.specs.declared.need.Way.TheVariants.{Source, Library, Order}
+use Rattle.b2_alternatives.specs.declared.need.NeedKind.TheVariants.{Source, Library, Order}
 use Rattle.b2_virtual.specs.declared.entry.Supply.{Supply}
 use Rattle.b2_virtual.specs.Supplies.{file_entry, entries_of, header_directories}
 use Rattle.b2_generate.specs.Answers.{Generated}
-use Rattle.b2_metatargets.specs.declared.whole.Declared.{Declared}
-use Rattle.b2_generate.specs.Standing.{Standing}
+use Rattle.b2_declared.specs.declared.whole.Declared.{Declared}
+use Rattle.b2_generate.specs.OpenTargets.{Standing}
 
-abbrev pub is_source : Way → Bool
+abbrev pub is_source : NeedKind → Bool
 is_source Source = true
 is_source Library = false
 is_source Order = false
 
-abbrev pub is_library : Way → Bool
+abbrev pub is_library : NeedKind → Bool
 is_library Source = false
 is_library Library = true
 is_library Order = false
 
-abbrev pub is_order : Way → Bool
+abbrev pub is_order : NeedKind → Bool
 is_order Source = false
 is_order Library = false
 is_order Order = true
 
-abbrev pub is_part : Way → Bool
+abbrev pub is_part : NeedKind → Bool
 is_part way = not (is_order way)
 
 -- what main targets supply, by their names
@@ -63,7 +63,7 @@ supplied types done seen (of_target name ∷ more) =
 
 module _ (d : Declared) where
   -- what the needs of some ways supply
-  abbrev pub supplied_by : (Way → Bool) → Chosen → Standing → List Supply
+  abbrev pub supplied_by : (NeedKind → Bool) → Chosen → Standing → List Supply
   supplied_by test c s =
       supplied d.types.types s.done [] (flat_map (λ n. parts_of n.meaning) (filter (λ n. test n.way) (needs d c.target s.set)))
 

@@ -3,8 +3,8 @@ use Rattle.std.specs.Prelude.{◌≡◌, ℕ, List, [], ◌∷◌, ◌++◌, Som
 use Rattle.std.specs.Option.{option_or}
 use Rattle.std.specs.FinMap as finite
 use Rattle.b2_references.specs.Names.{Name, is_same}
-use Rattle.b2_metatargets.specs.declared.whole.Declared.{Declared}
-use Rattle.b2_generate.specs.Standing.{conflict}
+use Rattle.b2_declared.specs.declared.whole.Declared.{Declared}
+use Rattle.b2_generate.specs.OpenTargets.{conflict}
 use Rattle.b2_generate.specs.Stack.{supplied}
 use Rattle.b2_generate.specs.Nodes.{entry_in}
 use Rattle.b2_generate.specs.Machine.{IsKept, frame_of, standing_of}

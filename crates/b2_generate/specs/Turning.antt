@@ -4,13 +4,13 @@ use Rattle.std.specs.Option.{option_or, unwrap_or}
 use Rattle.std.specs.FinMap as finite
 use Rattle.b2_plan.specs.declared.step.Step.{Step}
 use Rattle.b2_props.specs.Sets.{Pair, IsSet}
-use Rattle.b2_metatargets.specs.declared.whole.Declared.{Declared}
-use Rattle.b2_evaluation.specs.Answers.{Answers}
+use Rattle.b2_declared.specs.declared.whole.Declared.{Declared}
+use Rattle.b2_evaluator.specs.Answers.{Answers}
 use Rattle.b2_references.specs.Names.{Name, name_of, is_same, features}
 use Rattle.b2_alternatives.specs.Picking.{seen}
-use Rattle.b2_conversions.specs.Answers.{Grows}
+use Rattle.b2_making.specs.Answers.{Grows}
 use Rattle.b2_generate.specs.Generation.{Generates}
-use Rattle.b2_generate.specs.Loaded.{Loaded}
+use Rattle.b2_generate.specs.LoadedProjects.{LoadedProject}
 use Rattle.b2_generate.specs.Machine.{standing_of, frame_of, AreKept}
 use Rattle.b2_generate.specs.Making.{IsLatest, given_of}
 use Rattle.b2_generate.specs.Measure.{turns_left}
@@ -19,15 +19,15 @@ use Rattle.b2_generate.specs.Opening.{AreReady}
 use Rattle.b2_generate.specs.Remembered.{AreMade}
 use Rattle.b2_generate.specs.Stack.{IsUnderWay}
 use Rattle.b2_generate.specs.Tables.{Table}
-use Rattle.b2_generate.specs.Told.{IsRefusal, Leaves, loaded_of}
+use Rattle.b2_generate.specs.ToldOutcomes.{IsRefusal, Leaves, loaded_of}
 use Rattle.b2_generate.specs.declared.completing.Nodes.{Nodes}
 use Rattle.b2_generate.specs.declared.fault.GenFault.{GenFault}
 use Rattle.b2_generate.specs.declared.frame.Frame.{Frame}
-use Rattle.b2_generate.specs.declared.making.Made.{Made}
+use Rattle.b2_generate.specs.declared.making.TargetOutput.{TargetOutput}
 use Rattle.b2_generate.specs.declared.node.Node.{Node}
 
 -- the node that an open main target becomes
-pub record IsNodeOf (f : Frame) (made : Made) (latest : ℕ) (n : Node) : Type 0 where
+pub record IsNodeOf (f : Frame) (made : TargetOutput) (latest : ℕ) (n : Node) : Type 0 where
   pub named : n.name ≡ f.name
   pub asked : n.asked ≡ f.asked
   pub numbered : n.number ≡ f.chosen.number
@@ -42,7 +42,7 @@ pub record IsNoted (name : Name) (place : ℕ) (old new : Table ℕ) : Type 0 wh
   pub firsts : (other : Name) → finite.get new other ≡ option_or (finite.get old other) (if is_same other name then Some place else None)
 
 -- an open main target became a further node, at this place
-pub record IsCompleted (d : Declared) (old : List Node) (f : Frame) (made : Made) (new : List Node) (firsts : Table ℕ) (place : ℕ) : Type 0 where
+pub record IsCompleted (d : Declared) (old : List Node) (f : Frame) (made : TargetOutput) (new : List Node) (firsts : Table ℕ) (place : ℕ) : Type 0 where
   pub node : Node
   pub nodes : new ≡ node ∷ old
   pub place_is : place ≡ length old
@@ -56,7 +56,7 @@ abbrev pub IsLatestFor : Nodes → Frame → ℕ → Type 0
 IsLatestFor nodes f latest = IsLatest (reverse nodes.list.items) f.done (unwrap_or (finite.get nodes.firsts f.name) (length nodes.list.items)) latest
 
 -- an open main target, whose final properties are a set, became a further node, at the place that is answered
-abbrev pub Completes : {F : Type 0} → Nodes → Frame → Made → Nodes → Result ℕ F → Type 0
+abbrev pub Completes : {F : Type 0} → Nodes → Frame → TargetOutput → Nodes → Result ℕ F → Type 0
 Completes old f made new result =
     (d : Declared) → AreReady d (reverse old.list.items) old.firsts → IsSet (features d) made.set → IfOk result (IsCompleted d (reverse old.list.items) f made (reverse new.list.items) new.firsts)
 
@@ -82,7 +82,7 @@ IsTurned d before nodes firsts open_frames (Ok (Some place)) = IsOver d nodes fi
 IsTurned d before nodes firsts open_frames (Err fault) = Unit {0}
 
 -- where the project's own text is told, the oldest main target is under way, or this is its outcome
-abbrev pub Leads : {E : Type 0} → Loaded E → (E → Bool) → (E → Bool) → Name → List Pair → List Step → List Node → List Frame → List Step → Result (Option ℕ) (GenFault E) → Type 0
+abbrev pub Leads : {E : Type 0} → LoadedProject E → (E → Bool) → (E → Bool) → Name → List Pair → List Step → List Node → List Frame → List Step → Result (Option ℕ) (GenFault E) → Type 0
 Leads l is_host is_out name set start nodes open_frames steps (Ok None) =
     IsUnderWay l name set start (map (frame_of nodes) open_frames) steps × AreMade l nodes steps
 Leads l is_host is_out name set start nodes open_frames steps (Ok (Some place)) =
@@ -91,7 +91,7 @@ Leads l is_host is_out name set start nodes open_frames steps (Err fault) =
     IsRefusal is_host is_out (λ why. Generates l [] name set start (Err why)) fault
 
 -- a turn leads on for each main target that was under way
-abbrev pub LeadsOn : {E : Type 0} → Loaded E → (E → Bool) → (E → Bool) → List Node → List Frame → List Step → List Node → List Frame → List Step → Result (Option ℕ) (GenFault E) → Type 0
+abbrev pub LeadsOn : {E : Type 0} → LoadedProject E → (E → Bool) → (E → Bool) → List Node → List Frame → List Step → List Node → List Frame → List Step → Result (Option ℕ) (GenFault E) → Type 0
 LeadsOn l is_host is_out old old_frames before new new_frames after result =
     (name : Name) (set : List Pair) (start : List Step) → IsUnderWay l name set start (map (frame_of old) old_frames) before → AreMade l old before
     → Leads l is_host is_out name set start new new_frames after result
@@ -108,7 +108,7 @@ pub record IsTurn {S E K : Type 0} (answers : S → Option (Answers E)) (kept : 
   pub leaves : Leaves answers kept faults is_host is_out CanFault old new result
 
 -- what a main target gives with a set, or why nothing
-abbrev pub IsGenerated : {E : Type 0} → Loaded E → (E → Bool) → (E → Bool) → Name → List Pair → List Step → List Node → List Step → Result ℕ (GenFault E) → Type 0
+abbrev pub IsGenerated : {E : Type 0} → LoadedProject E → (E → Bool) → (E → Bool) → Name → List Pair → List Step → List Node → List Step → Result ℕ (GenFault E) → Type 0
 IsGenerated l is_host is_out name set before nodes after (Ok place) =
     Generates l [] name set before (Ok ((entry_in nodes place).1, after)) × AreMade l nodes after
 IsGenerated l is_host is_out name set before nodes after (Err fault) = IsRefusal is_host is_out (λ why. Generates l [] name set before (Err why)) fault

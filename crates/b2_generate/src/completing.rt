@@ -9,7 +9,7 @@ ghost use Rattle.b2_generate.specs.Nodes.{latest_in};
 ghost use Rattle.b2_generate.specs.Turning.{Completes, IsLatestFor, IsNodeOf, IsNoted};
 
 use crate::frame::Frame;
-use crate::making::Made;
+use crate::making::TargetOutput;
 use crate::name_table::NameTable;
 use crate::node::Node;
 use b2_base::fault::OutOfMemory;
@@ -28,7 +28,7 @@ pub struct Nodes {
 
 /// What is noted with a node.
 #[derive(Clone, Copy)]
-struct Noted {
+struct NodeNote {
     latest: usize,
     previous: Option<usize>,
 }
@@ -109,7 +109,7 @@ fn copied(alloc: Global, frame: &Frame<'_>) -> Result<CopiedParts, OutOfMemory>
 fn node_of(
     alloc: Global,
     frame: &Frame<'_>,
-    made: Made,
+    made: TargetOutput,
     latest: usize,
     previous: Option<usize>,
 ) -> Result<Node, OutOfMemory>
@@ -155,7 +155,7 @@ impl Nodes {
 
     /// A node of an open main target, of which further ones come later, is noted at the next place. Answers the latest place at
     /// which a main target that was opened for it was generated first, and the place of the node before it.
-    fn note(&mut self, frame: &Frame<'_>) -> Result<Noted, OutOfMemory>
+    fn note(&mut self, frame: &Frame<'_>) -> Result<NodeNote, OutOfMemory>
         ensures noted { OnOk result (IsNoted frame.now.name (length self.old.list.items) self.old.firsts self.new.firsts) }
         ensures latest { IfOk result (λ made. IsLatestFor self.old frame.now made.latest) }
         ensures same { self.new.list.items ≡ self.old.list.items }
@@ -163,7 +163,7 @@ impl Nodes {
         let place = self.list.len();
         let first = note_first(&mut self.firsts, &frame.name, place)?;
         let previous = note_newest(&mut self.newest, &frame.name, place)?;
-        Ok(Noted {
+        Ok(NodeNote {
             latest: latest_of(self.list.as_slice(), frame.done.as_slice(), first),
             previous,
         })
@@ -174,7 +174,7 @@ impl Nodes {
         &mut self,
         alloc: Global,
         frame: &Frame<'_>,
-        made: Made,
+        made: TargetOutput,
     ) -> Result<usize, OutOfMemory>
         requires { HasPlaces (reverse self.old.list.items) frame.now.done frame.now.places }
         ensures { Completes self.old frame.now made self.new result }

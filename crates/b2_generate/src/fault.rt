@@ -7,7 +7,7 @@ use b2_alternatives::fault::ChoiceFault;
 use b2_base::fault::OutOfMemory;
 use b2_base::text::Text;
 use b2_base::text_list::TextList;
-use b2_conversions::fault::MakingFault;
+use b2_making::fault::MakingFault;
 
 /// Why a request has no plan. Targets are texts `directory//name`, as in the table of main targets. `F` is why a rule of the
 /// project, or the text of a step, has no value.

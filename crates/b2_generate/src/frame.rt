@@ -1,6 +1,6 @@
 //! Open main targets.
 use crate::name_table::NameTable;
-use b2_alternatives::choosing::Chosen;
+use b2_alternatives::choosing::ChosenAlternative;
 use b2_alternatives::dependencies::Dependencies;
 use b2_base::list::List;
 use b2_props::props::Props;
@@ -11,7 +11,7 @@ pub(crate) struct Frame<'a> {
     pub(crate) name: TargetName,
     /// The set that it was asked for with.
     pub(crate) asked: Props,
-    pub(crate) chosen: Chosen<'a>,
+    pub(crate) chosen: ChosenAlternative<'a>,
     /// Where it stands.
     pub(crate) needs: Dependencies,
     /// The places of the nodes that were generated for it, in order.

@@ -20,7 +20,7 @@ use b2_alternatives::asker::Asker;
 use b2_alternatives::need::Next;
 use b2_base::fault::OutOfMemory;
 use b2_base::path::Path;
-use b2_evaluation::evaluate::Evaluate;
+use b2_evaluator::evaluate::Evaluate;
 use b2_props::elements::propagated;
 use b2_props::props::Props;
 use b2_references::name::TargetName;

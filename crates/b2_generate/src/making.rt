@@ -5,14 +5,14 @@ ghost use Rattle.b2_props.specs.Sets.{IsSet};
 ghost use Rattle.b2_props.specs.Refinement.{refined};
 ghost use Rattle.b2_references.specs.Names.{dir_of, features};
 ghost use Rattle.b2_alternatives.specs.Usage.{own_usage, passed_usage};
-ghost use Rattle.b2_conversions.specs.Answers.{Grows};
+ghost use Rattle.b2_making.specs.Answers.{Grows};
 ghost use Rattle.b2_virtual.specs.Supplies.{entries_of, header_directories};
 ghost use Rattle.b2_generate.specs.Gathering.{supplied_to};
 ghost use Rattle.b2_generate.specs.Supplies.{is_library};
 ghost use Rattle.b2_generate.specs.Machine.{IsKept, HasPlaces, standing_of};
 ghost use Rattle.b2_generate.specs.declared.supplies.Wanted.TheVariants.{Order};
 ghost use Rattle.b2_generate.specs.Making.{AreSupplied, IsApart, IsHome, sources_in, chosen_of, StepsAreMade, IsFinished, IsUnfinished};
-ghost use Rattle.b2_generate.specs.Told.{Leaves};
+ghost use Rattle.b2_generate.specs.ToldOutcomes.{Leaves};
 
 use crate::fault::GenFault;
 use crate::frame::Frame;
@@ -24,12 +24,12 @@ use b2_base::list::List;
 use b2_base::path::Path;
 use b2_base::path_list::PathList;
 use b2_base::text::Text;
-use b2_conversions::make::make;
-use b2_conversions::setting::Setting;
-use b2_conversions::site::Site;
-use b2_evaluation::evaluate::Evaluate;
+use b2_declared::whole::Declared;
+use b2_evaluator::evaluate::Evaluate;
 use b2_generators::types::Types;
-use b2_metatargets::whole::Declared;
+use b2_making::make::make;
+use b2_making::setting::Setting;
+use b2_making::site::Site;
 use b2_props::pair_list::PairList;
 use b2_props::props::Props;
 use b2_props::refinement::refine;
@@ -41,7 +41,7 @@ use std::alloc::Global;
 
 /// What is supplied to a main target, and the final set of its properties.
 #[derive(Drop)]
-struct Supplied {
+struct TargetInput {
     /// What the sources supply, where that is not what all parts do.
     apart: Option<List<Supply>>,
     parts: List<Supply>,
@@ -49,7 +49,7 @@ struct Supplied {
     set: Props,
 }
 
-impl Supplied {
+impl TargetInput {
     /// What the sources supply; takes no memory.
     fn sources(&self) -> &[Supply]
         ensures { result.now ≡ sources_in self.now }
@@ -63,7 +63,7 @@ impl Supplied {
 
 /// What a main target gives: the final set of its properties, its files and carried libraries, and its usage requirements.
 #[derive(Drop)]
-pub(crate) struct Made {
+pub(crate) struct TargetOutput {
     pub(crate) set: Props,
     pub(crate) supply: Supply,
     pub(crate) usage: PairList,
@@ -204,7 +204,7 @@ fn supplies_of(
     index: &Index<'_>,
     nodes: &[Node],
     frame: &Frame<'_>,
-) -> Result<Supplied, OutOfMemory>
+) -> Result<TargetInput, OutOfMemory>
     requires { IsKept (reverse nodes.now) index.now frame.now }
     ensures { IfOk result (AreSupplied index.now (chosen_of frame.now) (standing_of (reverse nodes.now) frame.now)) }
 {
@@ -213,7 +213,7 @@ fn supplies_of(
     let parts = supplied(alloc, types, nodes, frame, Wanted::Parts)?;
     let order = order_of(alloc, types, nodes, frame)?;
     let set = final_set(alloc, index, frame.needs.set(), parts.as_slice())?;
-    Ok(Supplied {
+    Ok(TargetInput {
         apart,
         parts,
         order,
@@ -244,7 +244,7 @@ fn steps_of<E: Evaluate>(
     roots: &[Path],
     nodes: &[Node],
     frame: &Frame<'_>,
-    supplied: &Supplied,
+    supplied: &TargetInput,
     evaluator: &mut E,
     builder: &mut Builder,
 ) -> Result<Supply, GenFault<E::Fault>>
@@ -294,7 +294,7 @@ pub(crate) fn finish<E: Evaluate>(
     frame: &Frame<'_>,
     evaluator: &mut E,
     builder: &mut Builder,
-) -> Result<Made, GenFault<E::Fault>>
+) -> Result<TargetOutput, GenFault<E::Fault>>
     requires { IsKept (reverse nodes.now) index.now frame.now }
     ensures made { IsFinished E.Evaluate index.now roots.now (reverse nodes.now) frame.now evaluator.old builder.old builder.new result }
     ensures refused { IsUnfinished E.Evaluate index.now roots.now (reverse nodes.now) frame.now evaluator.old builder.old result }
@@ -307,7 +307,7 @@ pub(crate) fn finish<E: Evaluate>(
         alloc, index, roots, nodes, frame, &supplied, evaluator, builder,
     )?;
     let usage = usage_of(alloc, index, frame, &supplied.set)?;
-    Ok(Made {
+    Ok(TargetOutput {
         set: supplied.set,
         supply,
         usage,

@@ -1,26 +1,26 @@
 //! Opening main targets.
 ghost use Rattle.std.specs.Prelude.{◌≡◌, ◌==◌, ◌||◌, not, length, [], true, Some, map, IfOk, OnOk};
 ghost use Rattle.b2_props.specs.Sets.{IsSet};
-ghost use Rattle.b2_evaluation.specs.Answers.{Answers};
+ghost use Rattle.b2_evaluator.specs.Answers.{Answers};
 ghost use Rattle.b2_references.specs.Names.{features, is_target, is_same, is_among};
-ghost use Rattle.b2_metatargets.specs.Numbered.{IsNumbered};
+ghost use Rattle.b2_declared.specs.Numbered.{IsNumbered};
 ghost use Rattle.b2_alternatives.specs.Settling.{GivesBy};
 ghost use Rattle.b2_generate.specs.Machine.{names_of};
 ghost use Rattle.b2_generate.specs.Opening.{frames, IsOpened, OpensBy, RefusesBy, texts_from, AddsFrom};
-ghost use Rattle.b2_generate.specs.Told.{Leaves};
+ghost use Rattle.b2_generate.specs.ToldOutcomes.{Leaves};
 
 use crate::fault::GenFault;
 use crate::frame::Frame;
 use crate::name_table::NameTable;
 use crate::stack::Stack;
 use b2_alternatives::asker::Asker;
-use b2_alternatives::choosing::{Chosen, choose};
+use b2_alternatives::choosing::{ChosenAlternative, choose};
 use b2_alternatives::dependencies::Dependencies;
 use b2_base::fault::OutOfMemory;
 use b2_base::list::List;
 use b2_base::text::Text;
 use b2_base::text_list::TextList;
-use b2_evaluation::evaluate::Evaluate;
+use b2_evaluator::evaluate::Evaluate;
 use b2_props::props::Props;
 use b2_references::index::Index;
 use b2_references::name::TargetName;
@@ -32,7 +32,7 @@ fn frame_of<'a>(
     index: &Index<'_>,
     name: TargetName,
     asked: Props,
-    chosen: Chosen<'a>,
+    chosen: ChosenAlternative<'a>,
     earliest: usize,
 ) -> Result<Frame<'a>, OutOfMemory>
     requires set { IsSet (features index.now) chosen.set }
@@ -59,7 +59,7 @@ fn chosen_for<'a, E: Evaluate + Drop>(
     asker: &mut Asker<'a, E>,
     name: &TargetName,
     asked: &Props,
-) -> Result<Chosen<'a>, GenFault<E::Fault>>
+) -> Result<ChosenAlternative<'a>, GenFault<E::Fault>>
     requires { IsNumbered (asker.old.index.now) }
     ensures chosen { (told : Answers E.Fault) → E.answers asker.old.evaluator ≡ Some told → GivesBy asker.old told name.now asked.now result }
     ensures refused { (told : Answers E.Fault) → E.answers asker.old.evaluator ≡ Some told → RefusesBy E.Evaluate asker.old told name.now asked.now result }

@@ -6,14 +6,14 @@ ghost use Rattle.b2_generate.specs.Pieces.{GivesPiece, GivesPieces};
 use crate::fault::GenFault;
 use crate::generation::Generation;
 use b2_base::list::List;
-use b2_evaluation::evaluate::Evaluate;
-use b2_references::asked::{Asked, AskedList};
+use b2_evaluator::evaluate::Evaluate;
+use b2_references::asked::{AskedList, AskedPiece};
 
 /// The place among all nodes of what a piece gives. A word that names no target is refused.
 #[tactic(none)]
 fn give<'a, E: Evaluate + Drop>(
     generation: &mut Generation<'a, E>,
-    piece: Asked,
+    piece: AskedPiece,
 ) -> Result<usize, GenFault<E::Fault>>
     requires { IsReady generation.old }
     ensures piece { GivesPiece E.answers E.kept E.faults E.is_host_fault E.is_out_of_memory E.CanFault piece generation.old generation.new result }
@@ -21,8 +21,8 @@ fn give<'a, E: Evaluate + Drop>(
     ensures roots { generation.new.roots.now ≡ generation.old.roots.now }
 {
     match piece {
-        Asked::Main { name, set } => generation.generate(name, set),
-        Asked::NoTarget { word } => Err(GenFault::NoTarget { name: word }),
+        AskedPiece::Main { name, set } => generation.generate(name, set),
+        AskedPiece::NoTarget { word } => Err(GenFault::NoTarget { name: word }),
     }
 }
 

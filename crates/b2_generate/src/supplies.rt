@@ -11,7 +11,7 @@ ghost use Rattle.b2_generate.specs.Gathering.{test_of, named_by, Gathers};
 use crate::frame::Frame;
 use crate::node::Node;
 use b2_alternatives::known::KnownNames;
-use b2_alternatives::need::{Need, Way};
+use b2_alternatives::need::{Need, NeedKind};
 use b2_base::fault::OutOfMemory;
 use b2_base::list::List;
 use b2_base::path::Path;
@@ -34,25 +34,25 @@ pub(crate) enum Wanted {
 
 /// What was gathered: what is supplied, in order, and the main targets that were looked at.
 #[derive(Drop)]
-pub(crate) struct Gathered {
+pub(crate) struct SuppliesSoFar {
     made: List<Supply>,
     seen: KnownNames,
 }
 
-fn wants(wanted: Wanted, way: Way) -> bool
+fn wants(wanted: Wanted, way: NeedKind) -> bool
     ensures { result ≡ test_of wanted way }
 {
     match wanted {
-        Wanted::Sources => matches!(way, Way::Source),
-        Wanted::Parts => !matches!(way, Way::Order),
-        Wanted::Order => matches!(way, Way::Order),
+        Wanted::Sources => matches!(way, NeedKind::Source),
+        Wanted::Parts => !matches!(way, NeedKind::Order),
+        Wanted::Order => matches!(way, NeedKind::Order),
     }
 }
 
-fn is_library(way: Way) -> bool
+fn is_library(way: NeedKind) -> bool
     ensures { result ≡ is_library way }
 {
-    matches!(way, Way::Library)
+    matches!(way, NeedKind::Library)
 }
 
 /// Whether one of some needs is a library; takes no memory.
@@ -106,7 +106,7 @@ fn add_target(
     types: &Types,
     nodes: &[Node],
     frame: &Frame<'_>,
-    gathered: &mut Gathered,
+    gathered: &mut SuppliesSoFar,
     name: &TargetName,
 ) -> Result<(), OutOfMemory>
     requires { HasPlaces (reverse nodes.now) frame.now.done frame.now.places }
@@ -127,7 +127,7 @@ fn add_targets(
     types: &Types,
     nodes: &[Node],
     frame: &Frame<'_>,
-    gathered: &mut Gathered,
+    gathered: &mut SuppliesSoFar,
     names: &[TargetName],
 ) -> Result<(), OutOfMemory>
     requires { HasPlaces (reverse nodes.now) frame.now.done frame.now.places }
@@ -144,7 +144,7 @@ fn add_need(
     types: &Types,
     nodes: &[Node],
     frame: &Frame<'_>,
-    gathered: &mut Gathered,
+    gathered: &mut SuppliesSoFar,
     need: &Need,
 ) -> Result<(), OutOfMemory>
     requires { HasPlaces (reverse nodes.now) frame.now.done frame.now.places }
@@ -171,7 +171,7 @@ fn add_wanted(
     nodes: &[Node],
     frame: &Frame<'_>,
     wanted: Wanted,
-    gathered: &mut Gathered,
+    gathered: &mut SuppliesSoFar,
     need: &Need,
 ) -> Result<(), OutOfMemory>
     requires { HasPlaces (reverse nodes.now) frame.now.done frame.now.places }
@@ -190,7 +190,7 @@ fn add_needs(
     nodes: &[Node],
     frame: &Frame<'_>,
     wanted: Wanted,
-    gathered: &mut Gathered,
+    gathered: &mut SuppliesSoFar,
     needs: &[Need],
 ) -> Result<(), OutOfMemory>
     requires { HasPlaces (reverse nodes.now) frame.now.done frame.now.places }
@@ -213,7 +213,7 @@ pub(crate) fn supplied(
     requires { HasPlaces (reverse nodes.now) frame.now.done frame.now.places }
     ensures { IfOk result (λ made. made ≡ supplied types.now.types (map (entry_in (reverse nodes.now)) frame.now.done) [] (named_by wanted (frame.now.needs.sources.needs ++ frame.now.needs.properties.needs))) }
 {
-    let mut gathered = Gathered {
+    let mut gathered = SuppliesSoFar {
         made: List::new(alloc),
         seen: KnownNames::new(alloc),
     };

@@ -1,6 +1,6 @@
 //! What was generated before, and what an open target takes of it.
 ghost use Rattle.std.specs.Prelude.{◌≡◌, ◌<◌, Some, None, length, reverse, IfOk, IfErr, IfSome, IsTrue, OnOk};
-ghost use Rattle.b2_generate.specs.Standing.{conflict};
+ghost use Rattle.b2_generate.specs.OpenTargets.{conflict};
 ghost use Rattle.b2_generate.specs.Nodes.{entry_in};
 ghost use Rattle.b2_generate.specs.Machine.{IsKept, standing_of};
 ghost use Rattle.b2_generate.specs.Opening.{IsConflict};

@@ -10,21 +10,21 @@ use Rattle.b2_generators.specs.declared.generator.Generator.{Generator as Genera
 use Rattle.b2_generators.specs.Table.{Registered, is_type_taken, is_generator_refused, HaveDistinctIds}
 use Rattle.b2_generators.proofs.RegisteredIdsStayDistinct.{distinct_push}
 use Rattle.b2_gcc.specs.Tables.{file_types, generators}
-use Rattle.b2_gcc.specs.Calls.{toolset_fault, with_types, with_generators, are_types_refused, are_generators_refused}
-use Rattle.b2_texts.specs.Clashes.{has_two_values}
-use Rattle.b2_texts.specs.Readings.{property_reading}
-use Rattle.b2_declarations.specs.declared.declaration.Declaration.{Declaration}
-use Rattle.b2_declarations.specs.declared.declaration.Declaration.TheVariants.{Project, Main, Explicit, BuildProject, UseProject, Using, Feature, Compose, FileType, Generator, Import, Test}
-use Rattle.b2_declarations.specs.Declarations.{is_refused}
-use Rattle.b2_metatargets.specs.declared.fault.DeclaringFault.{DeclaringFault}
-use Rattle.b2_metatargets.specs.declared.visit.Visit.{Visit}
-use Rattle.b2_metatargets.specs.declared.visit.Call.{Call}
-use Rattle.b2_metatargets.specs.declared.whole.Declared.{Declared}
-use Rattle.b2_metatargets.specs.Outcomes.{all_steps}
-use Rattle.b2_metatargets.specs.Calls.{visit_of, unless, unless_fault, after_reading}
-use Rattle.b2_metatargets.specs.Carrying.{Tables, with_features, with_registered, has_begun, gcc_tables, is_gcc_refused, with_project, with_gcc, with_feature, with_parts, with_compose, with_type, with_row, with_generator, with_declaration, with_accepted, carried_out, carrying, no_tables, tables_of, properties_in}
-use Rattle.b2_metatargets.specs.Gathering.{Gathered, gathered_by}
-use Rattle.b2_metatargets.specs.Declaring.{whole, declared}
+use Rattle.b2_gcc.specs.TableDeclarations.{toolset_fault, with_types, with_generators, are_types_refused, are_generators_refused}
+use Rattle.b2_property_texts.specs.Clashes.{has_two_values}
+use Rattle.b2_property_texts.specs.Readings.{property_reading}
+use Rattle.b2_declaring_calls.specs.declared.declaration.Declaration.{Declaration}
+use Rattle.b2_declaring_calls.specs.declared.declaration.Declaration.TheVariants.{Project, Main, Explicit, BuildProject, UseProject, Using, Feature, Compose, FileType, Generator, Import, Test}
+use Rattle.b2_declaring_calls.specs.Declarations.{is_refused}
+use Rattle.b2_declared.specs.declared.fault.DeclaringFault.{DeclaringFault}
+use Rattle.b2_declared.specs.declared.visit.Visit.{Visit}
+use Rattle.b2_declared.specs.declared.visit.Call.{Call}
+use Rattle.b2_declared.specs.declared.whole.Declared.{Declared}
+use Rattle.b2_declared.specs.Outcomes.{all_steps}
+use Rattle.b2_declared.specs.DeclaringCalls.{visit_of, unless, unless_fault, after_reading}
+use Rattle.b2_declared.specs.Carrying.{Tables, with_features, with_registered, has_begun, gcc_tables, is_gcc_refused, with_project, with_gcc, with_feature, with_parts, with_compose, with_type, with_row, with_generator, with_declaration, with_accepted, carried_out, carrying, no_tables, tables_of, properties_in}
+use Rattle.b2_declared.specs.Gathering.{Gathered, gathered_by}
+use Rattle.b2_declared.specs.Declaring.{whole, declared}
 use Rattle.b2_generation_laws.specs.Laws.{IdsAreDistinct}
 
 -- ---- steps that may be refused

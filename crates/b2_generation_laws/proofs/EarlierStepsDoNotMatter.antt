@@ -6,17 +6,17 @@ use Rattle.b2_plan.specs.declared.step.Step.{Step}
 use Rattle.b2_props.specs.Sets.{Pair}
 use Rattle.b2_generators.specs.declared.generator.Generator.{Generator}
 use Rattle.b2_generators.specs.Chains.{IsOnlyShortest, ids_of}
-use Rattle.b2_declarations.specs.declared.declaration.Kind.{Kind}
-use Rattle.b2_declarations.specs.declared.declaration.Kind.TheVariants.{Exe, Lib, Obj, Alias, Make, Install}
-use Rattle.jam_eval.specs.Rolled.{Job, StepAnswer}
+use Rattle.b2_declaring_calls.specs.declared.declaration.Kind.{Kind}
+use Rattle.b2_declaring_calls.specs.declared.declaration.Kind.TheVariants.{Exe, Lib, Obj, Alias, Make, Install}
+use Rattle.jam_meaning.specs.Rolled.{Job, StepAnswer}
 use Rattle.b2_virtual.specs.declared.entry.Entry.{Entry}
 use Rattle.b2_virtual.specs.Supplies.{is_header, entries_of, carried_of}
-use Rattle.b2_conversions.specs.Faults.{Fault, eval}
-use Rattle.b2_conversions.specs.Acts.{Act, gives, refuses, and_then, for_each, for_all, InsideIf, Joins}
-use Rattle.b2_conversions.specs.Contexts.{Context, Site}
-use Rattle.b2_conversions.specs.Steps.{location_of, paths_of, job, placed_at, places, texted, asks, runs}
-use Rattle.b2_conversions.specs.Conversions.{chains, along, to_objects, linked, links, program, library_file, is_shared, named_file, to_convert, copies_at, makes_kind}
-use Rattle.b2_conversions.proofs.EarlierStepsAreKept.{value_in, is_ok_in}
+use Rattle.b2_making.specs.Faults.{Fault, eval}
+use Rattle.b2_making.specs.Acts.{Act, gives, refuses, and_then, for_each, for_all, InsideIf, Joins}
+use Rattle.b2_making.specs.Contexts.{Context, Site}
+use Rattle.b2_making.specs.Steps.{location_of, paths_of, job, placed_at, places, texted, asks, runs}
+use Rattle.b2_making.specs.Conversions.{chains, along, to_objects, linked, links, program, library_file, is_shared, named_file, to_convert, copies_at, makes_kind}
+use Rattle.b2_making.proofs.EarlierStepsAreKept.{value_in, is_ok_in}
 
 -- an act that is done twice, over whatever steps, gives the same
 abbrev pub GivesOne : {E A : Type 0} → Act E A → Type 0

@@ -11,7 +11,7 @@ use Rattle.b2_plan.specs.Sources.{IsInRoots}
 use Rattle.b2_virtual.specs.Joining.{stands_in, joined}
 use Rattle.b2_virtual.specs.Clashes.{Clashes, Fits, shared, beside, within, log, below_log}
 use Rattle.b2_virtual.proofs.JoinedStepsKeepTheirNumbers.{at_cases}
-use Rattle.b2_conversions.specs.Answers.{AreHoused}
+use Rattle.b2_making.specs.Answers.{AreHoused}
 
 no_step : (i : ℕ) (step : Step) → step_at [] i ≡ Some step → ⊥
 no_step zero step e = let bad : None ≡ Some step = e in cc

@@ -6,19 +6,19 @@ use Rattle.b2_plan.specs.declared.step.Step.{Step}
 use Rattle.b2_plan.specs.Plans.{Apart}
 use Rattle.b2_plan.specs.Sources.{IsInRoots}
 use Rattle.b2_generators.specs.Table.{HaveDistinctIds}
-use Rattle.b2_declarations.specs.declared.declaration.Kind.{Kind}
-use Rattle.b2_declarations.specs.declared.declaration.Kind.TheVariants.{Exe, Lib, Obj, Alias, Make, Install}
-use Rattle.jam_eval.specs.Rolled.{Job, StepAnswer}
+use Rattle.b2_declaring_calls.specs.declared.declaration.Kind.{Kind}
+use Rattle.b2_declaring_calls.specs.declared.declaration.Kind.TheVariants.{Exe, Lib, Obj, Alias, Make, Install}
+use Rattle.jam_meaning.specs.Rolled.{Job, StepAnswer}
 use Rattle.b2_virtual.specs.declared.entry.Entry.{Entry}
 use Rattle.b2_virtual.specs.Supplies.{is_header, entries_of, carried_of}
-use Rattle.b2_conversions.specs.Acts.{Act, gives, and_then, for_each, for_all, InsideIf, Joins}
-use Rattle.b2_conversions.specs.Answers.{AreHoused}
-use Rattle.b2_conversions.specs.Contexts.{Context, Site}
-use Rattle.b2_conversions.specs.Doing.{GivesSome}
-use Rattle.b2_conversions.specs.Steps.{location_of, paths_of, job, step_of, placed_at, places, texted, asks, runs}
-use Rattle.b2_conversions.specs.Conversions.{chains, first_tail, along, to_objects, linked, links, program, library_file, is_shared, named_file, to_convert, copies_at, makes_kind}
-use Rattle.b2_conversions.proofs.ChainGeneratorsGiveOutputs.{chain_gives, naming_some}
-use Rattle.b2_conversions.proofs.EarlierStepsAreKept.{value_in, steps_in, is_ok_in}
+use Rattle.b2_making.specs.Acts.{Act, gives, and_then, for_each, for_all, InsideIf, Joins}
+use Rattle.b2_making.specs.Answers.{AreHoused}
+use Rattle.b2_making.specs.Contexts.{Context, Site}
+use Rattle.b2_making.specs.MakingParts.{GivesSome}
+use Rattle.b2_making.specs.Steps.{location_of, paths_of, job, step_of, placed_at, places, texted, asks, runs}
+use Rattle.b2_making.specs.Conversions.{chains, first_tail, along, to_objects, linked, links, program, library_file, is_shared, named_file, to_convert, copies_at, makes_kind}
+use Rattle.b2_making.proofs.ChainGeneratorsGiveOutputs.{chain_gives, naming_some}
+use Rattle.b2_making.proofs.EarlierStepsAreKept.{value_in, steps_in, is_ok_in}
 use Rattle.b2_generation_laws.proofs.JoinedStepsStayApart.{joined_apart}
 
 -- an act keeps outputs apart, and this holds of what it gives

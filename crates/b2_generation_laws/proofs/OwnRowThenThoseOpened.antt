@@ -10,8 +10,8 @@ use Rattle.b2_alternatives.proofs.TargetAndSetDecideChoice.{names_itself}
 use Rattle.b2_generate.specs.Answers.{Row, Generated}
 use Rattle.b2_generate.specs.Generation.{Generates, Depends, finished, complete_now, goes_on}
 use Rattle.b2_generate.specs.Laws.{OwnRowIsFirst, RowsAreOpenings, IsOpened, rows_of}
-use Rattle.b2_generate.specs.Loaded.{Loaded, returned}
-use Rattle.b2_generate.specs.Standing.{Standing, with_target, at_first, hands_on}
+use Rattle.b2_generate.specs.LoadedProjects.{LoadedProject, returned}
+use Rattle.b2_generate.specs.OpenTargets.{Standing, with_target, at_first, hands_on}
 use Rattle.b2_generate.specs.Supplies.{final_set}
 use Rattle.b2_generation_laws.proofs.TargetsComeFromTheirNeeds.{IsMadeOf, made_of, finished_of}
 
@@ -23,7 +23,7 @@ rows_append : (done more : List (Name × Generated)) → rows_of (done ++ more) 
 rows_append [] more = refl
 rows_append (d ∷ done) more = ap (λ rows. d.1.rows ++ rows) (rows_append done more) ∙ sym (append_assoc d.1.rows (rows_of done) (rows_of more))
 
-module _ {E : Type 0} (l : Loaded E) where
+module _ {E : Type 0} (l : LoadedProject E) where
   abbrev own_row : Chosen → Standing → Row
   own_row c s = record { name = c.name; alternative = c.number; set = final_set l.declared c s }
 

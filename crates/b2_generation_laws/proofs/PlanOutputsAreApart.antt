@@ -8,20 +8,20 @@ use Rattle.b2_props.specs.Sets.{Pair}
 use Rattle.b2_generators.specs.Table.{HaveDistinctIds}
 use Rattle.b2_references.specs.Names.{Name}
 use Rattle.b2_references.specs.Requests.{asked}
-use Rattle.b2_references.specs.declared.asked.Asked.{Asked}
+use Rattle.b2_references.specs.declared.asked.AskedPiece.{AskedPiece}
 use Rattle.b2_alternatives.specs.Choosing.{Chosen}
 use Rattle.b2_generate.specs.Answers.{Generated, Outcome}
 use Rattle.b2_generate.specs.Faults.{Fault}
 use Rattle.b2_generate.specs.Generation.{Generates, Depends, site, finished, complete_now, goes_on}
-use Rattle.b2_generate.specs.Loaded.{Loaded, context}
+use Rattle.b2_generate.specs.LoadedProjects.{LoadedProject, context}
 use Rattle.b2_generate.specs.Planning.{Planned, planned, planned_of, Answers, all_given, given as given_first}
-use Rattle.b2_generate.specs.Standing.{Standing, at_first, with_target, hands_on}
+use Rattle.b2_generate.specs.OpenTargets.{Standing, at_first, with_target, hands_on}
 use Rattle.b2_generation_laws.specs.Laws.{PlansAreApart}
 use Rattle.b2_generation_laws.proofs.JoinedStepsStayApart.{none_apart}
 use Rattle.b2_generation_laws.proofs.MakingKeepsOutputsApart.{made_apart}
 use Rattle.b2_generation_laws.proofs.TargetsComeFromTheirNeeds.{made_of}
 
-module _ {E : Type 0} (l : Loaded E) (bin : Contains l.roots (codes "bin")) (distinct : HaveDistinctIds l.declared.types.generators) where
+module _ {E : Type 0} (l : LoadedProject E) (bin : Contains l.roots (codes "bin")) (distinct : HaveDistinctIds l.declared.types.generators) where
   mutual
     generated_apart : (above : List Name) (name : Name) (set : List Pair) (before after : List Step) (given : Generated)
         → Generates l above name set before (Ok (given, after)) → Apart before l.roots → Apart after l.roots
@@ -36,7 +36,7 @@ module _ {E : Type 0} (l : Loaded E) (bin : Contains l.roots (codes "bin")) (dis
     depended_apart above c s before after last (goes_on _ _ _ _ between name given _ is made fits depends) apart =
         depended_apart above c (with_target l.declared s name given) between after last depends (generated_apart above name (hands_on l.declared s) before between given made apart)
 
-  answers_apart : (pieces : List Asked) (before after : List Step) (made : List Generated) → Answers l pieces before (Ok (made, after)) → Apart before l.roots → Apart after l.roots
+  answers_apart : (pieces : List AskedPiece) (before after : List Step) (made : List Generated) → Answers l pieces before (Ok (made, after)) → Apart before l.roots → Apart after l.roots
   answers_apart pieces before after made (all_given _) apart = apart
   answers_apart pieces before after made (given_first name set more _ between _ first others generates rest) apart =
       answers_apart more between after others rest (generated_apart [] name set before between first generates apart)

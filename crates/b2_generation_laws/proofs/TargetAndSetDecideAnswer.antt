@@ -11,8 +11,8 @@ use Rattle.b2_alternatives.proofs.TargetAndSetDecideChoice.{one_choice_law}
 use Rattle.b2_generate.specs.Answers.{Generated}
 use Rattle.b2_generate.specs.Generation.{Generates, Depends, generated, site, finished, complete_now, goes_on}
 use Rattle.b2_generate.specs.Laws.{SameAnswer}
-use Rattle.b2_generate.specs.Loaded.{Loaded, returned, context}
-use Rattle.b2_generate.specs.Standing.{Standing, at_first, next, with_target, hands_on}
+use Rattle.b2_generate.specs.LoadedProjects.{LoadedProject, returned, context}
+use Rattle.b2_generate.specs.OpenTargets.{Standing, at_first, next, with_target, hands_on}
 use Rattle.b2_generation_laws.proofs.TargetsComeFromTheirNeeds.{IsMadeOf, made_of, finished_of}
 use Rattle.b2_generation_laws.proofs.EarlierStepsDoNotMatter.{made_once}
 
@@ -31,12 +31,12 @@ kind_of (Missing text) = 1
 kind_of (Due name) = 2
 
 -- how step 3 ends well
-data EndsWell {E : Type 0} (l : Loaded E) (above : List Name) (c : Chosen) (s : Standing) (before : List Step) (last : Standing) (after : List Step) : Type 0 where
+data EndsWell {E : Type 0} (l : LoadedProject E) (above : List Name) (c : Chosen) (s : Standing) (before : List Step) (last : Standing) (after : List Step) : Type 0 where
   at_once : next l.declared c s ≡ Complete → last ≡ s → EndsWell l above c s before last after
   later_on : (name : Name) (given : Generated) (between : List Step) → next l.declared c s ≡ Due name → Generates l above name (hands_on l.declared s) before (Ok (given, between))
       → Depends l above c (with_target l.declared s name given) between (Ok (last, after)) → EndsWell l above c s before last after
 
-module _ {E : Type 0} (l : Loaded E) where
+module _ {E : Type 0} (l : LoadedProject E) where
   ends_well : (above : List Name) (c : Chosen) (s : Standing) (before : List Step) (last : Standing) (after : List Step) → Depends l above c s before (Ok (last, after)) → EndsWell l above c s before last after
   ends_well above c s before last after (complete_now _ _ _ _ is) = at_once is refl
   ends_well above c s before last after (goes_on _ _ _ _ between name given _ is made fits depends) = later_on name given between is made depends

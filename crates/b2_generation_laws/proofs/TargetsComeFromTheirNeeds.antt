@@ -5,24 +5,24 @@ use Rattle.b2_props.specs.Sets.{Pair}
 use Rattle.b2_references.specs.Names.{Name}
 use Rattle.b2_alternatives.specs.Choosing.{Chosen, Chooses}
 use Rattle.b2_virtual.specs.declared.entry.Supply.{Supply}
-use Rattle.b2_conversions.specs.Acts as making
-use Rattle.b2_conversions.specs.Conversions.{makes}
+use Rattle.b2_making.specs.Acts as making
+use Rattle.b2_making.specs.Conversions.{makes}
 use Rattle.b2_generate.specs.Answers.{Generated}
 use Rattle.b2_generate.specs.Faults.{Fault}
 use Rattle.b2_generate.specs.Generation.{Generates, Depends, Finishes, finished, finished_by, generated, site}
-use Rattle.b2_generate.specs.Loaded.{Loaded, returned, context}
-use Rattle.b2_generate.specs.Standing.{Standing, at_first}
+use Rattle.b2_generate.specs.LoadedProjects.{LoadedProject, returned, context}
+use Rattle.b2_generate.specs.OpenTargets.{Standing, at_first}
 
 unok : {A B : Type 0} (x y : A) (r : Result A B) → r ≡ Ok x → r ≡ Ok y → x ≡ y
 unok x y r p q = cc
 
 -- what was made of what it depends on
-pub record IsMadeOf {E : Type 0} (l : Loaded E) (c : Chosen) (s : Standing) (before : List Step) (given : Generated) (after : List Step) : Type 0 where
+pub record IsMadeOf {E : Type 0} (l : LoadedProject E) (c : Chosen) (s : Standing) (before : List Step) (given : Generated) (after : List Step) : Type 0 where
   pub supply : Supply
   pub makes_it : makes (context l) (site l c s) before (Ok (supply, after))
   pub given_is : given ≡ generated l c s supply
 
-module _ {E : Type 0} (l : Loaded E) where
+module _ {E : Type 0} (l : LoadedProject E) where
   made_by : (c : Chosen) (s : Standing) (before : List Step) (given : Generated) (after : List Step) (made : making.Outcome E Supply) (r : Result (Generated × List Step) (Fault E))
       → makes (context l) (site l c s) before made → r ≡ Ok (given, after) → r ≡ finished_by l c s made → IsMadeOf l c s before given after
   made_by c s before given after (Ok (supply, end)) r makes_it p q =

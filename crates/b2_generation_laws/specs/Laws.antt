@@ -4,17 +4,17 @@ use Rattle.std.specs.List.{Contains}
 use Rattle.b2_plan.specs.Plans.{Apart}
 use Rattle.b2_props.specs.Sets.{Pair}
 use Rattle.b2_generators.specs.Table.{HaveDistinctIds}
-use Rattle.b2_metatargets.specs.declared.visit.Call.{Call}
-use Rattle.b2_metatargets.specs.declared.visit.Visit.{Visit}
-use Rattle.b2_metatargets.specs.declared.whole.Declared.{Declared}
-use Rattle.b2_metatargets.specs.Declaring.{declared}
-use Rattle.b2_generate.specs.Loaded.{Loaded}
+use Rattle.b2_declared.specs.declared.visit.Call.{Call}
+use Rattle.b2_declared.specs.declared.visit.Visit.{Visit}
+use Rattle.b2_declared.specs.declared.whole.Declared.{Declared}
+use Rattle.b2_declared.specs.Declaring.{declared}
+use Rattle.b2_generate.specs.LoadedProjects.{LoadedProject}
 use Rattle.b2_generate.specs.Planning.{Planned, Plans}
 
 -- The outputs of each plan are apart, where `bin` is an output root and no two generators have one id, as each table of generators
 -- keeps it. Where two had one, the first of them would stand for the other in a chain, also if it has no outputs.
 abbrev pub PlansAreApart : Type 0 → Type 0
-PlansAreApart E = (l : Loaded E) (sets : List (List Pair)) (words : List (List ℕ)) (planned : Planned) →
+PlansAreApart E = (l : LoadedProject E) (sets : List (List Pair)) (words : List (List ℕ)) (planned : Planned) →
     Contains l.roots (codes "bin") → HaveDistinctIds l.declared.types.generators → Plans l sets words (Ok planned) → Apart planned.steps planned.roots
 
 -- no two generators that the calls of a load declare have one id

@@ -29,7 +29,7 @@ pub struct GenChain {
 
 /// The chain that comes first, and the second one, if there are two.
 #[derive(Drop)]
-struct Found {
+struct FirstChains {
     first: TextList,
     second: Option<TextList>,
 }
@@ -89,7 +89,7 @@ fn find(
     generators: &GeneratorTable,
     layers: &[List<usize>],
     from: &str,
-) -> Result<Found, OutOfMemory>
+) -> Result<FirstChains, OutOfMemory>
     requires from { HasNoZero from.now }
     requires connected { IsConnected generators.now layers.now }
     requires start { (count : ℕ) → length layers.now ≡ suc count → CanGoOn generators.now layers.now count (from.now ∷ []) }
@@ -99,13 +99,13 @@ fn find(
     let walk = descend(alloc, generators, layers, layers.len(), start.as_slice())?;
     let first = ids(alloc, generators, walk.places.as_slice())?;
     match walk.branch {
-        None => Ok(Found {
+        None => Ok(FirstChains {
             first,
             second: None,
         }),
         Some(branch) => {
             let second = second(alloc, generators, layers, walk.places.as_slice(), branch)?;
-            Ok(Found {
+            Ok(FirstChains {
                 first,
                 second: Some(second),
             })
@@ -144,13 +144,13 @@ fn two_chains(
 }
 
 /// One chain is the answer, and two are a fault.
-fn answer(alloc: Global, from: &str, to: &str, found: Found) -> Result<GenChain, ChainFault>
+fn answer(alloc: Global, from: &str, to: &str, found: FirstChains) -> Result<GenChain, ChainFault>
     requires from { HasNoZero from.now }
     requires to { HasNoZero to.now }
     ensures one { IfOk result (λ chain. (found.second ≡ None) × (chain.ids ≡ found.first)) }
     ensures two { IfErr result (TellsBoth from.now to.now found.first found.second) }
 {
-    let Found { first, second } = found;
+    let FirstChains { first, second } = found;
     match second {
         None => Ok(GenChain { ids: first }),
         Some(second) => Err(two_chains(alloc, from, to, first, second)?),

@@ -5,7 +5,7 @@ use Rattle.std.proofs.lemmas.Slice.Eq.{bytes_eq-Decides}
 use Rattle.std.proofs.lemmas.List.Elements.{All-contains}
 use Rattle.std.proofs.lemmas.List.Folds.{list_any_at}
 use Rattle.std.proofs.lemmas.List.Sums.{AllPass-from_list_all}
-use Rattle.b2_memory.specs.declared.running.Running.{Running}
+use Rattle.b2_memory.specs.declared.running_child.RunningChild.{RunningChild}
 use Rattle.b2_host.specs.ChildProcesses.{Child, AreApart, MayStart}
 use Rattle.b2_memory.specs.Families.{child_with}
 use Rattle.b2_memory.specs.Jobs.{given_of}
@@ -40,5 +40,5 @@ all_map p f [] = refl
 all_map p f (x ∷ xs) = ap (λ b. p (f x) && b) (all_map p f xs)
 
 -- the same of the children of a host in memory
-pub may_start_beside : (ins outs : List (List ℕ)) (running : List Running) → list_all (λ child. is_beside ins outs (child_with (given_of child.job.value))) running ≡ true → MayStart (running_children running) ins outs
+pub may_start_beside : (ins outs : List (List ℕ)) (running : List RunningChild) → list_all (λ child. is_beside ins outs (child_with (given_of child.job.value))) running ≡ true → MayStart (running_children running) ins outs
 may_start_beside ins outs running h = may_start ins outs (running_children running) (all_map (is_beside ins outs) (λ child. child_with (given_of child.job.value)) running ∙ h)

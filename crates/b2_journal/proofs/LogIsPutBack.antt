@@ -14,7 +14,7 @@ use Rattle.b2_host.specs.LogChanges.{ChangesOnlyLog, log_changes_same, log_chang
 use Rattle.b2_log.specs.declared.line.LogLine.{LogLine}
 use Rattle.b2_log.specs.Lines.{log_bytes}
 use Rattle.b2_runs.specs.LogCourses.{Opening, log_file, left_file}
-use Rattle.b2_journal.specs.declared.reading.LogState.{LogState}
+use Rattle.b2_journal.specs.declared.log_reading.LogState.{LogState}
 use Rattle.b2_journal.specs.Readings.{Stands, IsLogRead, ReadsLog}
 use Rattle.b2_journal.specs.Openings.{IsOpened, IsOpeningCut, IsOpeningCut.untouched, IsOpeningCut.replacing, Opens, MayFailTold, Begins, PutsBack}
 

@@ -9,8 +9,8 @@ use Rattle.b2_host.specs.FileCalls.{log_path, after_read}
 use Rattle.b2_log.specs.declared.line.LogLine.{LogLine}
 use Rattle.b2_log.specs.Readings.{IsReading}
 use Rattle.b2_runs.specs.LogFiles.{log_limit}
-use Rattle.b2_journal.specs.declared.reading.LogState.{LogState}
-use Rattle.b2_journal.specs.declared.reading.LogState.TheVariants as states
+use Rattle.b2_journal.specs.declared.log_reading.LogState.{LogState}
+use Rattle.b2_journal.specs.declared.log_reading.LogState.TheVariants as states
 
 -- the file has these lines and nothing after them
 abbrev pub IsWhole : Option (List ℕ) → List LogLine → Type 0

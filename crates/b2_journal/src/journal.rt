@@ -14,9 +14,9 @@ ghost use Rattle.b2_journal.specs.Rules.{opening_by};
 ghost use Rattle.b2_journal.specs.Openings.{Opens, MayFailTold, ReadsOnlyLog};
 ghost use Rattle.b2_journal.specs.Notes.{Notes};
 
+use crate::log_reading::read_at;
 use crate::opening::{first_lines, put_back};
-use crate::reading::read_at;
-use crate::rule::Rule;
+use crate::opening_rule::OpeningRule;
 use b2_base::fault::OutOfMemory;
 use b2_base::path::Path;
 use b2_host::fault::IoFault;
@@ -66,7 +66,11 @@ impl Model for Journal {
 impl Journal {
     /// Reads the log's file, and replaces it where the rule says so: by its kept lines, or by the empty text where it is too
     /// large. Otherwise nothing is written. The host fails, or no memory is left; in the latter case nothing was written.
-    pub fn open<F: Files>(alloc: Global, files: &mut F, rule: Rule) -> Result<Journal, IoFault>
+    pub fn open<F: Files>(
+        alloc: Global,
+        files: &mut F,
+        rule: OpeningRule,
+    ) -> Result<Journal, IoFault>
         ensures only_log { ChangesOnlyLog (F.outside files.old) (F.outside files.new) }
         ensures counts { IoFaultTold (F.outside files.old).faults (F.outside files.new).faults result }
         ensures may_fail { MayFailTold (F.outside files.old) result }

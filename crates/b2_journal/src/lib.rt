@@ -19,6 +19,6 @@
 
 pub mod journal;
 pub mod laws;
+pub mod log_reading;
 mod opening;
-pub mod reading;
-pub mod rule;
+pub mod opening_rule;

@@ -8,8 +8,8 @@ ghost use Rattle.b2_journal.specs.Rules.{opening_by};
 ghost use Rattle.b2_journal.specs.Readings.{Stands};
 ghost use Rattle.b2_journal.specs.Openings.{IsKeptBeginning, Begins, PutsBack};
 
-use crate::reading::{LogState, Reading};
-use crate::rule::Rule;
+use crate::log_reading::{LogReading, LogState};
+use crate::opening_rule::OpeningRule;
 use b2_base::fault::OutOfMemory;
 use b2_base::path::Path;
 use b2_host::fault::IoFault;
@@ -35,12 +35,12 @@ fn is_long(log: &Log) -> bool
 }
 
 /// Whether a log is to be shortened: it is long, and the rule is that of an update.
-fn is_to_shorten(rule: Rule, log: &Log) -> bool
+fn is_to_shorten(rule: OpeningRule, log: &Log) -> bool
     ensures { IsTrue result ↔ IsToShorten (opening_by rule) log.now.lines }
 {
     match rule {
-        Rule::Update => is_long(log),
-        Rule::Cut => false,
+        OpeningRule::Update => is_long(log),
+        OpeningRule::Cut => false,
     }
 }
 
@@ -58,12 +58,16 @@ fn kept_beginning(alloc: Global, log: Log) -> Result<Beginning, OutOfMemory>
 }
 
 /// The lines to begin with, and what is to stand in the file's place.
-pub fn first_lines(alloc: Global, rule: Rule, reading: Reading) -> Result<Beginning, OutOfMemory>
+pub fn first_lines(
+    alloc: Global,
+    rule: OpeningRule,
+    reading: LogReading,
+) -> Result<Beginning, OutOfMemory>
     requires { AllByRecursion IsGood reading.log.lines }
     ensures good { IfOk result (λ beginning. AllByRecursion IsGood beginning.log.lines) }
     ensures begins { IfOk result (λ beginning. (file : Option (List ℕ)) → Stands file reading.state reading.log.lines → Begins (opening_by rule) file beginning.log.lines beginning.bytes) }
 {
-    let Reading { log, state } = reading;
+    let LogReading { log, state } = reading;
     match state {
         LogState::Missing => Ok(Beginning { log, bytes: None }),
         LogState::TooLarge => Ok(Beginning {

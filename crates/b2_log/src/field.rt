@@ -8,8 +8,8 @@ ghost use Rattle.b2_base.specs.Bytes.{backslash};
 ghost use Rattle.b2_log.specs.Good.{IsText, IsPath, IsNumber, IsDigest};
 ghost use Rattle.b2_log.specs.Readings.{Begins, BeginsNone, HasNoNext, IsNoEscape, IsPlain, HasNoMark, mark_field, HasNoTag, tag_field};
 
+use crate::line_fault::LineFault;
 use crate::proper::is_digest;
-use crate::refusal::Refusal;
 use crate::tag::Tag;
 use b2_base::decimal::has_lead;
 use b2_base::fault::OutOfMemory;
@@ -89,10 +89,10 @@ fn bytes_after<'a>(
     alloc: Global,
     plain: &[u8],
     rest: &'a [u8],
-) -> Result<(Vec<u8>, &'a [u8]), Refusal>
+) -> Result<(Vec<u8>, &'a [u8]), LineFault>
     requires { All IsPlain plain.now }
     ensures found { IfOk result (λ read. plain.now ++ rest.now ≡ field read.0.items ++ read.1.now) }
-    ensures refused { IsErrOf result Refusal.NotGood → (text after : List ℕ) → plain.now ++ rest.now ≢ field text ++ after }
+    ensures refused { IsErrOf result LineFault.NotGood → (text after : List ℕ) → plain.now ++ rest.now ≢ field text ++ after }
 {
     let mut text = Vec::from_slice(alloc, plain)?;
     let mut rest = rest;
@@ -105,40 +105,40 @@ fn bytes_after<'a>(
         text.extend_from_slice(piece)?;
         rest = after;
     }
-    Err(Refusal::NotGood)
+    Err(LineFault::NotGood)
 }
 
 /// Refused where they are no UTF-8 or have a zero byte, since no field that was written has these.
-fn text_of(bytes: Vec<u8>) -> Result<String, Refusal>
+fn text_of(bytes: Vec<u8>) -> Result<String, LineFault>
     ensures found { IfOk result (λ text. (string_bytes text ≡ bytes.items) × IsText bytes.items) }
-    ensures refused { IsErrOf result Refusal.NotGood → ¬ IsText bytes.items }
+    ensures refused { IsErrOf result LineFault.NotGood → ¬ IsText bytes.items }
 {
     let Ok(text) = String::from_utf8(bytes) else {
-        return Err(Refusal::NotGood);
+        return Err(LineFault::NotGood);
     };
     if !has_no_zero(text.as_str()) {
-        return Err(Refusal::NotGood);
+        return Err(LineFault::NotGood);
     }
     Ok(text)
 }
 
 /// Plain bytes as text; refused where they are no UTF-8.
-fn plain_text(bytes: &[u8]) -> Result<&str, Refusal>
+fn plain_text(bytes: &[u8]) -> Result<&str, LineFault>
     requires { All IsPlain bytes.now }
     ensures found { IfOk result (λ text. (text.now ≡ bytes.now) × IsText bytes.now) }
-    ensures refused { IsErrOf result Refusal.NotGood → ¬ IsText bytes.now }
+    ensures refused { IsErrOf result LineFault.NotGood → ¬ IsText bytes.now }
 {
     match str::from_utf8(bytes) {
         Ok(text) => Ok(text),
-        Err(_) => Err(Refusal::NotGood),
+        Err(_) => Err(LineFault::NotGood),
     }
 }
 
 /// The text of the first field, and what follows its tab. It is lent where all its bytes are plain, and takes memory where
 /// a byte was written otherwise.
-fn field_at(alloc: Global, bytes: &[u8]) -> Result<(CowStr<'_>, &[u8]), Refusal>
+fn field_at(alloc: Global, bytes: &[u8]) -> Result<(CowStr<'_>, &[u8]), LineFault>
     ensures found { IfOk result (λ read. Begins field IsText bytes.now (cow_str_bytes read.0) read.1.now) }
-    ensures refused { IsErrOf result Refusal.NotGood → BeginsNone field IsText bytes.now }
+    ensures refused { IsErrOf result LineFault.NotGood → BeginsNone field IsText bytes.now }
 {
     let (plain, rest) = plain_at(bytes);
     if let Some(after) = after_tab(rest) {
@@ -160,9 +160,9 @@ fn owned(alloc: Global, text: CowStr<'_>) -> Result<Text, OutOfMemory>
 }
 
 /// The text of the first field, and what follows its tab.
-pub fn text_at(alloc: Global, bytes: &[u8]) -> Result<(Text, &[u8]), Refusal>
+pub fn text_at(alloc: Global, bytes: &[u8]) -> Result<(Text, &[u8]), LineFault>
     ensures found { IfOk result (λ read. Begins field IsText bytes.now read.0 read.1.now) }
-    ensures refused { IsErrOf result Refusal.NotGood → BeginsNone field IsText bytes.now }
+    ensures refused { IsErrOf result LineFault.NotGood → BeginsNone field IsText bytes.now }
 {
     let (text, rest) = field_at(alloc, bytes)?;
     let text = owned(alloc, text)?;
@@ -170,21 +170,21 @@ pub fn text_at(alloc: Global, bytes: &[u8]) -> Result<(Text, &[u8]), Refusal>
 }
 
 /// The path that is a text in normal form.
-fn path_of(alloc: Global, text: Text) -> Result<Path, Refusal>
+fn path_of(alloc: Global, text: Text) -> Result<Path, LineFault>
     requires { IsText text }
     ensures found { IfOk result (λ path. (path ≡ text) × IsPath text) }
-    ensures refused { IsErrOf result Refusal.NotGood → ¬ IsPath text }
+    ensures refused { IsErrOf result LineFault.NotGood → ¬ IsPath text }
 {
     match Path::from_text(alloc, text)? {
         Some(path) => Ok(path),
-        None => Err(Refusal::NotGood),
+        None => Err(LineFault::NotGood),
     }
 }
 
 /// The path of the first field, and what follows its tab.
-pub fn path_at(alloc: Global, bytes: &[u8]) -> Result<(Path, &[u8]), Refusal>
+pub fn path_at(alloc: Global, bytes: &[u8]) -> Result<(Path, &[u8]), LineFault>
     ensures found { IfOk result (λ read. Begins field IsPath bytes.now read.0 read.1.now) }
-    ensures refused { IsErrOf result Refusal.NotGood → BeginsNone field IsPath bytes.now }
+    ensures refused { IsErrOf result LineFault.NotGood → BeginsNone field IsPath bytes.now }
 {
     let (text, rest) = text_at(alloc, bytes)?;
     let path = path_of(alloc, text)?;
@@ -202,25 +202,25 @@ fn number_of(text: &str) -> Option<u64>
 }
 
 /// The number of the first field, and what follows its tab.
-pub fn number_at(alloc: Global, bytes: &[u8]) -> Result<(u64, &[u8]), Refusal>
+pub fn number_at(alloc: Global, bytes: &[u8]) -> Result<(u64, &[u8]), LineFault>
     ensures found { IfOk result (λ read. Begins number IsNumber bytes.now read.0 read.1.now) }
-    ensures refused { IsErrOf result Refusal.NotGood → BeginsNone number IsNumber bytes.now }
+    ensures refused { IsErrOf result LineFault.NotGood → BeginsNone number IsNumber bytes.now }
 {
     let (text, rest) = field_at(alloc, bytes)?;
     match number_of(text.as_str()) {
         Some(n) => Ok((n, rest)),
-        None => Err(Refusal::NotGood),
+        None => Err(LineFault::NotGood),
     }
 }
 
 /// The digest of the first field, and what follows its tab.
-pub fn digest_at(alloc: Global, bytes: &[u8]) -> Result<(Text, &[u8]), Refusal>
+pub fn digest_at(alloc: Global, bytes: &[u8]) -> Result<(Text, &[u8]), LineFault>
     ensures found { IfOk result (λ read. Begins field IsDigest bytes.now read.0 read.1.now) }
-    ensures refused { IsErrOf result Refusal.NotGood → BeginsNone field IsDigest bytes.now }
+    ensures refused { IsErrOf result LineFault.NotGood → BeginsNone field IsDigest bytes.now }
 {
     let (text, rest) = field_at(alloc, bytes)?;
     if !is_digest(text.as_str()) {
-        return Err(Refusal::NotGood);
+        return Err(LineFault::NotGood);
     }
     let digest = owned(alloc, text)?;
     Ok((digest, rest))

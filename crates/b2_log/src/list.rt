@@ -7,7 +7,7 @@ ghost use Rattle.b2_log.specs.Readings.{Begins, BeginsNone};
 
 use crate::field::{digest_at, mark_at, number_at, path_at, text_at};
 use crate::line::{IncludeList, StampedPaths};
-use crate::refusal::Refusal;
+use crate::line_fault::LineFault;
 use b2_base::fault::OutOfMemory;
 use b2_base::path::Path;
 use b2_base::path_list::PathList;
@@ -16,9 +16,9 @@ use b2_base::text_list::TextList;
 use std::alloc::Global;
 
 /// The path and the stamp that stand first, and what follows them.
-fn file_at(alloc: Global, bytes: &[u8]) -> Result<((Path, u64), &[u8]), Refusal>
+fn file_at(alloc: Global, bytes: &[u8]) -> Result<((Path, u64), &[u8]), LineFault>
     ensures found { IfOk result (λ read. Begins stamped IsStamped bytes.now read.0 read.1.now) }
-    ensures refused { IsErrOf result Refusal.NotGood → BeginsNone stamped IsStamped bytes.now }
+    ensures refused { IsErrOf result LineFault.NotGood → BeginsNone stamped IsStamped bytes.now }
 {
     let (path, rest) = path_at(alloc, bytes)?;
     let (stamp, rest) = number_at(alloc, rest)?;
@@ -27,9 +27,9 @@ fn file_at(alloc: Global, bytes: &[u8]) -> Result<((Path, u64), &[u8]), Refusal>
 
 /// The list of paths with stamps that stands first, and what follows it. Nothing is reserved for the number that is read: a
 /// list that is shorter than it says is refused where it ends.
-pub fn stamped_at(alloc: Global, bytes: &[u8]) -> Result<(StampedPaths, &[u8]), Refusal>
+pub fn stamped_at(alloc: Global, bytes: &[u8]) -> Result<(StampedPaths, &[u8]), LineFault>
     ensures found { IfOk result (λ read. Begins (counted stamped) (IsCounted IsStamped) bytes.now read.0 read.1.now) }
-    ensures refused { IsErrOf result Refusal.NotGood → BeginsNone (counted stamped) (IsCounted IsStamped) bytes.now }
+    ensures refused { IsErrOf result LineFault.NotGood → BeginsNone (counted stamped) (IsCounted IsStamped) bytes.now }
 {
     let (count, start) = number_at(alloc, bytes)?;
     let mut files = StampedPaths::new(alloc);
@@ -51,9 +51,9 @@ struct DigestedFile {
 }
 
 /// The path, the stamp and the digest that stand first, and what follows them.
-fn digested_file_at(alloc: Global, bytes: &[u8]) -> Result<(DigestedFile, &[u8]), Refusal>
+fn digested_file_at(alloc: Global, bytes: &[u8]) -> Result<(DigestedFile, &[u8]), LineFault>
     ensures found { IfOk result (λ read. Begins digested IsDigested bytes.now ((read.0.path, read.0.stamp), read.0.digest) read.1.now) }
-    ensures refused { IsErrOf result Refusal.NotGood → BeginsNone digested IsDigested bytes.now }
+    ensures refused { IsErrOf result LineFault.NotGood → BeginsNone digested IsDigested bytes.now }
 {
     let ((path, stamp), rest) = file_at(alloc, bytes)?;
     let (digest, rest) = digest_at(alloc, rest)?;
@@ -86,10 +86,10 @@ fn push_digested(list: &mut DigestedFiles, file: DigestedFile) -> Result<(), Out
 }
 
 /// The list of paths with stamps and digests that stands first, and what follows it.
-pub fn digested_at(alloc: Global, bytes: &[u8]) -> Result<(DigestedFiles, &[u8]), Refusal>
+pub fn digested_at(alloc: Global, bytes: &[u8]) -> Result<(DigestedFiles, &[u8]), LineFault>
     ensures found { IfOk result (λ read. Begins (counted digested) (IsCounted IsDigested) bytes.now (zip read.0.files read.0.digests) read.1.now) }
     ensures same { IfOk result (λ read. length read.0.digests ≡ length read.0.files) }
-    ensures refused { IsErrOf result Refusal.NotGood → BeginsNone (counted digested) (IsCounted IsDigested) bytes.now }
+    ensures refused { IsErrOf result LineFault.NotGood → BeginsNone (counted digested) (IsCounted IsDigested) bytes.now }
 {
     let (count, start) = number_at(alloc, bytes)?;
     let mut list = DigestedFiles {
@@ -106,9 +106,9 @@ pub fn digested_at(alloc: Global, bytes: &[u8]) -> Result<(DigestedFiles, &[u8])
 }
 
 /// The list of paths that stands first, and what follows it.
-pub fn paths_at(alloc: Global, bytes: &[u8]) -> Result<(PathList, &[u8]), Refusal>
+pub fn paths_at(alloc: Global, bytes: &[u8]) -> Result<(PathList, &[u8]), LineFault>
     ensures found { IfOk result (λ read. Begins (counted field) (IsCounted IsPath) bytes.now read.0 read.1.now) }
-    ensures refused { IsErrOf result Refusal.NotGood → BeginsNone (counted field) (IsCounted IsPath) bytes.now }
+    ensures refused { IsErrOf result LineFault.NotGood → BeginsNone (counted field) (IsCounted IsPath) bytes.now }
 {
     let (count, start) = number_at(alloc, bytes)?;
     let mut paths = PathList::new(alloc);
@@ -122,21 +122,21 @@ pub fn paths_at(alloc: Global, bytes: &[u8]) -> Result<(PathList, &[u8]), Refusa
 }
 
 /// The include that stands first, and what follows it.
-fn include_at(alloc: Global, bytes: &[u8]) -> Result<((Text, bool), &[u8]), Refusal>
+fn include_at(alloc: Global, bytes: &[u8]) -> Result<((Text, bool), &[u8]), LineFault>
     ensures found { IfOk result (λ read. Begins included IsIncluded bytes.now read.0 read.1.now) }
-    ensures refused { IsErrOf result Refusal.NotGood → BeginsNone included IsIncluded bytes.now }
+    ensures refused { IsErrOf result LineFault.NotGood → BeginsNone included IsIncluded bytes.now }
 {
     let Some((quoted, rest)) = mark_at(bytes) else {
-        return Err(Refusal::NotGood);
+        return Err(LineFault::NotGood);
     };
     let (name, rest) = text_at(alloc, rest)?;
     Ok(((name, quoted), rest))
 }
 
 /// The list of includes that stands first, and what follows it.
-pub fn includes_at(alloc: Global, bytes: &[u8]) -> Result<(IncludeList, &[u8]), Refusal>
+pub fn includes_at(alloc: Global, bytes: &[u8]) -> Result<(IncludeList, &[u8]), LineFault>
     ensures found { IfOk result (λ read. Begins (counted included) (IsCounted IsIncluded) bytes.now read.0 read.1.now) }
-    ensures refused { IsErrOf result Refusal.NotGood → BeginsNone (counted included) (IsCounted IsIncluded) bytes.now }
+    ensures refused { IsErrOf result LineFault.NotGood → BeginsNone (counted included) (IsCounted IsIncluded) bytes.now }
 {
     let (count, start) = number_at(alloc, bytes)?;
     let mut includes = IncludeList::new(alloc);

@@ -6,9 +6,9 @@ ghost use Rattle.b2_log.specs.Readings.{Begins, BeginsNone, Ends, IsReadAs};
 
 use crate::field::{number_at, path_at, tag_at, text_at};
 use crate::line::{Digests, LogLine, Record, ScanLine};
+use crate::line_fault::LineFault;
 use crate::list::{digested_at, includes_at, paths_at, stamped_at};
 use crate::proper::is_proper;
-use crate::refusal::Refusal;
 use crate::tag::Tag;
 use b2_base::fault::OutOfMemory;
 use std::alloc::Global;
@@ -34,9 +34,9 @@ fn after_line<'a>(line: &LogLine, bytes: &'a [u8]) -> Option<&'a [u8]>
 }
 
 /// The record without digests whose fields stand first, and what follows them.
-fn record_at(alloc: Global, bytes: &[u8]) -> Result<(LogLine, &[u8]), Refusal>
+fn record_at(alloc: Global, bytes: &[u8]) -> Result<(LogLine, &[u8]), LineFault>
     ensures found { IfOk result (λ read. Begins fields_of (IsReadAs Tag.Record) bytes.now read.0 read.1.now) }
-    ensures refused { IsErrOf result Refusal.NotGood → BeginsNone fields_of (IsReadAs Tag.Record) bytes.now }
+    ensures refused { IsErrOf result LineFault.NotGood → BeginsNone fields_of (IsReadAs Tag.Record) bytes.now }
 {
     let (text, rest) = text_at(alloc, bytes)?;
     let (outs, rest) = stamped_at(alloc, rest)?;
@@ -51,9 +51,9 @@ fn record_at(alloc: Global, bytes: &[u8]) -> Result<(LogLine, &[u8]), Refusal>
 }
 
 /// The record with digests whose fields stand first, and what follows them.
-fn digested_record_at(alloc: Global, bytes: &[u8]) -> Result<(LogLine, &[u8]), Refusal>
+fn digested_record_at(alloc: Global, bytes: &[u8]) -> Result<(LogLine, &[u8]), LineFault>
     ensures found { IfOk result (λ read. Begins fields_of (IsReadAs Tag.Digested) bytes.now read.0 read.1.now) }
-    ensures refused { IsErrOf result Refusal.NotGood → BeginsNone fields_of (IsReadAs Tag.Digested) bytes.now }
+    ensures refused { IsErrOf result LineFault.NotGood → BeginsNone fields_of (IsReadAs Tag.Digested) bytes.now }
 {
     let (text, rest) = text_at(alloc, bytes)?;
     let (outs, rest) = digested_at(alloc, rest)?;
@@ -71,18 +71,18 @@ fn digested_record_at(alloc: Global, bytes: &[u8]) -> Result<(LogLine, &[u8]), R
 }
 
 /// The drop whose outputs stand first, and what follows them.
-fn drop_at(alloc: Global, bytes: &[u8]) -> Result<(LogLine, &[u8]), Refusal>
+fn drop_at(alloc: Global, bytes: &[u8]) -> Result<(LogLine, &[u8]), LineFault>
     ensures found { IfOk result (λ read. Begins fields_of (IsReadAs Tag.Drop) bytes.now read.0 read.1.now) }
-    ensures refused { IsErrOf result Refusal.NotGood → BeginsNone fields_of (IsReadAs Tag.Drop) bytes.now }
+    ensures refused { IsErrOf result LineFault.NotGood → BeginsNone fields_of (IsReadAs Tag.Drop) bytes.now }
 {
     let (outs, rest) = paths_at(alloc, bytes)?;
     Ok((LogLine::Drop(outs), rest))
 }
 
 /// The scan whose fields stand first, and what follows them.
-fn scan_at(alloc: Global, bytes: &[u8]) -> Result<(LogLine, &[u8]), Refusal>
+fn scan_at(alloc: Global, bytes: &[u8]) -> Result<(LogLine, &[u8]), LineFault>
     ensures found { IfOk result (λ read. Begins fields_of (IsReadAs Tag.Scan) bytes.now read.0 read.1.now) }
-    ensures refused { IsErrOf result Refusal.NotGood → BeginsNone fields_of (IsReadAs Tag.Scan) bytes.now }
+    ensures refused { IsErrOf result LineFault.NotGood → BeginsNone fields_of (IsReadAs Tag.Scan) bytes.now }
 {
     let (path, rest) = path_at(alloc, bytes)?;
     let (stamp, rest) = number_at(alloc, rest)?;
@@ -96,9 +96,9 @@ fn scan_at(alloc: Global, bytes: &[u8]) -> Result<(LogLine, &[u8]), Refusal>
 }
 
 /// The line of this kind whose fields stand first, and what follows them.
-fn fields_at(alloc: Global, tag: Tag, bytes: &[u8]) -> Result<(LogLine, &[u8]), Refusal>
+fn fields_at(alloc: Global, tag: Tag, bytes: &[u8]) -> Result<(LogLine, &[u8]), LineFault>
     ensures found { IfOk result (λ read. Begins fields_of (IsReadAs tag) bytes.now read.0 read.1.now) }
-    ensures refused { IsErrOf result Refusal.NotGood → BeginsNone fields_of (IsReadAs tag) bytes.now }
+    ensures refused { IsErrOf result LineFault.NotGood → BeginsNone fields_of (IsReadAs tag) bytes.now }
 {
     match tag {
         Tag::Record => record_at(alloc, bytes),
@@ -109,16 +109,16 @@ fn fields_at(alloc: Global, tag: Tag, bytes: &[u8]) -> Result<(LogLine, &[u8]), 
 }
 
 /// The good line that stands first, and what follows it.
-fn line_at(alloc: Global, bytes: &[u8]) -> Result<(LogLine, &[u8]), Refusal>
+fn line_at(alloc: Global, bytes: &[u8]) -> Result<(LogLine, &[u8]), LineFault>
     ensures found { IfOk result (λ read. Begins spelling IsGood bytes.now read.0 read.1.now) }
-    ensures refused { IsErrOf result Refusal.NotGood → BeginsNone spelling IsGood bytes.now }
+    ensures refused { IsErrOf result LineFault.NotGood → BeginsNone spelling IsGood bytes.now }
 {
     let Some((tag, rest)) = tag_at(bytes) else {
-        return Err(Refusal::NotGood);
+        return Err(LineFault::NotGood);
     };
     let (line, rest) = fields_at(alloc, tag, rest)?;
     let Some(after) = after_line(&line, rest) else {
-        return Err(Refusal::NotGood);
+        return Err(LineFault::NotGood);
     };
     Ok((line, after))
 }
@@ -131,7 +131,7 @@ pub fn next_line(alloc: Global, bytes: &[u8]) -> Result<Option<(LogLine, &[u8])>
 {
     match line_at(alloc, bytes) {
         Ok(read) => Ok(Some(read)),
-        Err(Refusal::NotGood) => Ok(None),
-        Err(Refusal::OutOfMemory) => Err(OutOfMemory),
+        Err(LineFault::NotGood) => Ok(None),
+        Err(LineFault::OutOfMemory) => Err(OutOfMemory),
     }
 }

@@ -15,8 +15,8 @@ use Rattle.b2_plan.specs.declared.step.Step.{Step}
 use Rattle.b2_plan.specs.Plans.{step_at, Makes, maker_of, Apart}
 use Rattle.b2_runs.proofs.FirstElementOrLater.{Contains_here, Contains_there, Contains_cases}
 use Rattle.b2_sched.specs.Schedules.{Schedule, IsUnjudged, IsSettled}
-use Rattle.b2_facts.specs.declared.stop.Stop.{Stop}
-use Rattle.b2_facts.specs.declared.stop.Stop.TheVariants as stops
+use Rattle.b2_facts.specs.declared.stop.FilesStop.{FilesStop}
+use Rattle.b2_facts.specs.declared.stop.FilesStop.TheVariants as stops
 use Rattle.b2_facts.specs.Stops.{StopTold, stop_of_io}
 use Rattle.b2_facts.specs.declared.file_facts.FileFacts.{FileFacts}
 use Rattle.b2_facts.specs.Facts.{Knowledge, IsAbout, WasRead, path_at, file_at}
@@ -31,7 +31,7 @@ use Rattle.b2_reach.specs.Sightings.{LearnsMore}
 use Rattle.b2_reach.proofs.FoundMakerMakesPath.{maker_makes, none_makes}
 use Rattle.b2_reach.proofs.ReachGrows.{was_file}
 use Rattle.b2_verdicts.specs.declared.step_numbers.StepNumbers.{StepNumbers}
-use Rattle.b2_verdicts.specs.Calls.{IsOfStep, Asks}
+use Rattle.b2_verdicts.specs.VerdictCalls.{IsOfStep, Asks}
 use Rattle.b2_board.specs.declared.work.Work.{Work}
 use Rattle.b2_board.specs.Works.{IsWorkOn, IsLookedAt, IsClosed}
 use Rattle.b2_looks.specs.declared.looks.Looks.{Looks}
@@ -40,13 +40,13 @@ use Rattle.b2_looks.specs.Looks.{IsUnstarted, IsUnstarted.source as is_source, I
 
 -- ---- counts of faults
 
-told_then : {T : Type 0} (x y z : Outside) (r : Result T Stop) → y.risks ≡ x.risks → y.faults ≡ x.faults → StopTold y z r → StopTold x z r
+told_then : {T : Type 0} (x y z : Outside) (r : Result T FilesStop) → y.risks ≡ x.risks → y.faults ≡ x.faults → StopTold y z r → StopTold x z r
 told_then x y z (Ok v) risks same told = told ∙ same
 told_then x y z (Err stops.Host) risks same told = (ap (λ (r : Risks). r.may_fail) (sym risks) ∙ told.0, subst (λ n. Rose n z.faults) same told.1)
 told_then x y z (Err stops.OutOfMemory) risks same told = told ∙ same
 told_then x y z (Err (stops.TooBig number size)) risks same told = told ∙ same
 
-told_err : (T S : Type 0) (x y : Outside) (stop : Stop) → StopTold {T = T} x y (Err stop) → StopTold {T = S} x y (Err stop)
+told_err : (T S : Type 0) (x y : Outside) (stop : FilesStop) → StopTold {T = T} x y (Err stop) → StopTold {T = S} x y (Err stop)
 told_err T S x y stops.Host told = told
 told_err T S x y stops.OutOfMemory told = told
 told_err T S x y (stops.TooBig number size) told = told
@@ -65,10 +65,10 @@ module _ (steps : List Step) (roots : List (List ℕ)) where
   pub looks_no_memory : {T : Type 0} (P : ℕ → Type 0) (s t : Sights) (x : Outside) → Learns steps roots P s.facts t.facts → t.by_digest ≡ s.by_digest → LooksAtFiles {T = T} steps roots P s x t x (Err stops.OutOfMemory)
   looks_no_memory P s t x learns way = record { only_log = log_changes_same x x refl; faults = refl; learns = learns; way = way }
 
-  pub looks_map : {T : Type 0} (P Q : ℕ → Type 0) (s t : Sights) (x y : Outside) (r : Result T Stop) → ((n : ℕ) → P n → Q n) → LooksAtFiles steps roots P s x t y r → LooksAtFiles steps roots Q s x t y r
+  pub looks_map : {T : Type 0} (P Q : ℕ → Type 0) (s t : Sights) (x y : Outside) (r : Result T FilesStop) → ((n : ℕ) → P n → Q n) → LooksAtFiles steps roots P s x t y r → LooksAtFiles steps roots Q s x t y r
   looks_map P Q s t x y r more a = record { only_log = a.only_log; faults = a.faults; learns = learns_more steps roots P Q s.facts t.facts more a.learns; way = a.way }
 
-  pub looks_then : {T S : Type 0} (P : ℕ → Type 0) (s t w : Sights) (x y z : Outside) (v : T) (r : Result S Stop) → LooksAtFiles steps roots P s x t y (Ok v) → LooksAtFiles steps roots P t y w z r → LooksAtFiles steps roots P s x w z r
+  pub looks_then : {T S : Type 0} (P : ℕ → Type 0) (s t w : Sights) (x y z : Outside) (v : T) (r : Result S FilesStop) → LooksAtFiles steps roots P s x t y (Ok v) → LooksAtFiles steps roots P t y w z r → LooksAtFiles steps roots P s x w z r
   looks_then P s t w x y z v r a b = record {
     only_log = log_changes_then x y z a.only_log b.only_log;
     faults = told_then x y z r a.only_log.risks a.faults b.faults;
@@ -79,13 +79,13 @@ module _ (steps : List Step) (roots : List (List ℕ)) where
   pub looks_ok : {T S : Type 0} (P : ℕ → Type 0) (s t : Sights) (x y : Outside) (v : T) (w : S) → LooksAtFiles steps roots P s x t y (Ok v) → LooksAtFiles steps roots P s x t y (Ok w)
   looks_ok P s t x y v w a = record { only_log = a.only_log; faults = a.faults; learns = a.learns; way = a.way }
 
-  pub looks_err : {T S : Type 0} (P : ℕ → Type 0) (s t : Sights) (x y : Outside) (stop : Stop) (r : Result S Stop) → r ≡ Err stop → LooksAtFiles {T = T} steps roots P s x t y (Err stop) → LooksAtFiles {T = S} steps roots P s x t y r
+  pub looks_err : {T S : Type 0} (P : ℕ → Type 0) (s t : Sights) (x y : Outside) (stop : FilesStop) (r : Result S FilesStop) → r ≡ Err stop → LooksAtFiles {T = T} steps roots P s x t y (Err stop) → LooksAtFiles {T = S} steps roots P s x t y r
   looks_err {T} {S} P s t x y stop r is a = subst (LooksAtFiles steps roots P s x t y) (sym is) (record { only_log = a.only_log; faults = told_err T S x y stop a.faults; learns = a.learns; way = a.way })
 
-  pub looks_asked : {T : Type 0} (P : ℕ → Type 0) (Q : Folder → Type 0) (s t : Sights) (x y : Outside) (r : Result T Stop) → t.by_digest ≡ s.by_digest → Asks P Q s.facts t.facts x y r → LooksAtFiles steps roots P s x t y r
+  pub looks_asked : {T : Type 0} (P : ℕ → Type 0) (Q : Folder → Type 0) (s t : Sights) (x y : Outside) (r : Result T FilesStop) → t.by_digest ≡ s.by_digest → Asks P Q s.facts t.facts x y r → LooksAtFiles steps roots P s x t y r
   looks_asked P Q s t x y r way a = record { only_log = a.effect.only_log; faults = a.counts; learns = a.learns.learns steps roots; way = way }
 
-  pub looks_learned : {T : Type 0} {notes : Bool} (settled : ℕ → Type 0) (members : List ℕ) (s t : Sights) (x y : Outside) (r : Result T Stop) → LearnsMore notes steps roots settled members s x t y r → LooksAtFiles steps roots (IsNumberAtHand steps settled t.facts) s x t y r
+  pub looks_learned : {T : Type 0} {notes : Bool} (settled : ℕ → Type 0) (members : List ℕ) (s t : Sights) (x y : Outside) (r : Result T FilesStop) → LearnsMore notes steps roots settled members s x t y r → LooksAtFiles steps roots (IsNumberAtHand steps settled t.facts) s x t y r
   looks_learned settled members s t x y r a = record { only_log = a.only_log; faults = a.faults; learns = a.learns; way = a.by_digest }
 
   -- a line was noted

@@ -35,7 +35,7 @@ use Rattle.b2_reach.proofs.MembersAreAdded.{taken_more, take_whole}
 use Rattle.b2_verdicts.specs.declared.step_numbers.StepNumbers.{StepNumbers}
 use Rattle.b2_verdicts.specs.Made.{AreRising}
 use Rattle.b2_verdicts.specs.Sights.{AreNumbers}
-use Rattle.b2_looks.specs.declared.step_files.Named.{Named}
+use Rattle.b2_looks.specs.declared.step_files.NumberedPath.{NumberedPath}
 use Rattle.b2_looks.specs.Numbers.{number_in, HasPath, is_before, IsOneOf, owes, has_bytes, has_bytes_of, has_bytes_by, IsOfDone, AreFilesOf}
 
 -- what holds of a value under one premise holds under another one that it implies
@@ -72,13 +72,13 @@ mapped_more h xs i d numbers low is = rw is (sym (ap (map h) (take_more xs i d l
     joined (y ∷ ys) = ap (λ l. h y ∷ l) (joined ys)
 
 -- one more file with its path
-pub path_more : (f : Knowledge) (members : List ℕ) (i : ℕ) (named later : List Named) (one : Named) → i < length members → one.number ≡ get_or members i 0 → HasPath f one → later ≡ named ++ one ∷ [] → map number_in named ≡ take i members → All (HasPath f) named → (map number_in later ≡ take (i + 1) members) × All (HasPath f) later
+pub path_more : (f : Knowledge) (members : List ℕ) (i : ℕ) (named later : List NumberedPath) (one : NumberedPath) → i < length members → one.number ≡ get_or members i 0 → HasPath f one → later ≡ named ++ one ∷ [] → map number_in named ≡ take i members → All (HasPath f) named → (map number_in later ≡ take (i + 1) members) × All (HasPath f) later
 path_more f members i named later one low at has pushed numbers paths = (
   ap (map number_in) pushed ∙ mapped_end named ∙ ap (λ l. l ++ one.number ∷ []) numbers ∙ ap (λ n. take i members ++ n ∷ []) at ∙ sym (take_more members i 0 low),
   subst (All (HasPath f)) (sym pushed) (All-push (HasPath f) named one paths has),
 )
   where
-    mapped_end : (ys : List Named) → map number_in (ys ++ one ∷ []) ≡ map number_in ys ++ one.number ∷ []
+    mapped_end : (ys : List NumberedPath) → map number_in (ys ++ one ∷ []) ≡ map number_in ys ++ one.number ∷ []
     mapped_end [] = refl
     mapped_end (y ∷ ys) = ap (λ l. y.number ∷ l) (mapped_end ys)
 
@@ -171,15 +171,15 @@ first_before p q differ e = go (slice_cmp nat_cmp q p) refl e
     go Greater is e = nat_list_cmp_total.antisymm p q ∙ ap ordering_reverse is
 
 pub ranks : IsStrictWeakOrder is_before
-ranks = ranks_by nat_list_cmp_total (λ (x : Named). x.path.now)
+ranks = ranks_by nat_list_cmp_total (λ (x : NumberedPath). x.path.now)
 
 -- numbers that are sorted by their paths rise
-pub sorted_rise : (f : Knowledge) (members : List ℕ) (xs : List Named) → AreDistinct f.paths → AllPairs (λ n m. n ≢ m) members → IsPermutation members (map number_in xs) → All (HasPath f) xs → IsSortedBy is_before xs → AreRising f (map number_in xs)
+pub sorted_rise : (f : Knowledge) (members : List ℕ) (xs : List NumberedPath) → AreDistinct f.paths → AllPairs (λ n m. n ≢ m) members → IsPermutation members (map number_in xs) → All (HasPath f) xs → IsSortedBy is_before xs → AreRising f (map number_in xs)
 sorted_rise f members xs paths distinct moved has up i j d low high one other at_i at_j =
     rises xs refl
   where
-    rises : (ys : List Named) → ys ≡ xs → Before one other
-    rises [] e = absurd (let h : j < length (map number_in xs) = high in let g : length (map number_in xs) ≡ 0 = ap (λ (l : List Named). length (map number_in l)) (sym e) in omega arith)
+    rises : (ys : List NumberedPath) → ys ≡ xs → Before one other
+    rises [] e = absurd (let h : j < length (map number_in xs) = high in let g : length (map number_in xs) ≡ 0 = ap (λ (l : List NumberedPath). length (map number_in l)) (sym e) in omega arith)
     rises (y ∷ ys) e =
         let wide : j < length xs = omega (arith, high, length-map xs number_in) in
         let near : i < length xs = omega arith in

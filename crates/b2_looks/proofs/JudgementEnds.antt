@@ -25,8 +25,8 @@ use Rattle.b2_runs.specs.FileReads.{IsToDigest.input as digest_input, IsToDigest
 use Rattle.b2_runs.specs.LogCourses.{IsToMigrate}
 use Rattle.b2_runs.specs.Afterwards.{IsNotedStep}
 use Rattle.b2_runs.proofs.ClosureByPresent.{seen_is_clean}
-use Rattle.b2_facts.specs.declared.stop.Stop.{Stop}
-use Rattle.b2_facts.specs.declared.stop.Stop.TheVariants as stops
+use Rattle.b2_facts.specs.declared.stop.FilesStop.{FilesStop}
+use Rattle.b2_facts.specs.declared.stop.FilesStop.TheVariants as stops
 use Rattle.b2_facts.specs.Facts.{Knowledge, IsNumber, IsAbout, path_at}
 use Rattle.b2_facts.specs.Growth.{IncludesStay, Learns}
 use Rattle.b2_facts.specs.Truth.{StaysTrue}
@@ -36,9 +36,9 @@ use Rattle.b2_reach.specs.Sightings.{IsTrueSight, AreLined}
 use Rattle.b2_reach.proofs.GrowthComposes.{both_same}
 use Rattle.b2_verdicts.specs.declared.step_numbers.StepNumbers.{StepNumbers}
 use Rattle.b2_verdicts.specs.declared.point.Point.{Point}
-use Rattle.b2_verdicts.specs.declared.way.Way.{Way}
+use Rattle.b2_verdicts.specs.declared.judging_mode.JudgingMode.{JudgingMode}
 use Rattle.b2_verdicts.specs.Points.{IsPoint, IsPointBy, IsOrdinary, IsOpenToDigests}
-use Rattle.b2_verdicts.specs.Calls.{IsOfStep, IsUndigested, ReadsOnly, IsTooBigOf, IfTooBig, LastTellsUnless, Asks}
+use Rattle.b2_verdicts.specs.VerdictCalls.{IsOfStep, IsUndigested, ReadsOnly, IsTooBigOf, IfTooBig, LastTellsUnless, Asks}
 use Rattle.b2_verdicts.specs.Cases.{AreNumbersOf}
 use Rattle.b2_verdicts.proofs.TrueFactsTell.{bytes_among}
 use Rattle.b2_looks.specs.UnderWay.{LooseAreBlank, IsUnderWay, IsStopOf, IsHalted}
@@ -84,7 +84,7 @@ step_numbered steps roots f step members numbers about named n of = elim of [
     path_number steps roots f n path about at = let within = slice_get_within f.paths n path at in let sizes = about.sizes in (within, omega (arith, within, sizes))
 
 -- where work stopped between two notes
-pub halted_at : (u : Update) (events : List ChildEvent) (first : List LogLine) (reads : List Read) (disk : Disk) (s : Sights) (stop : Stop) → IsUnderWay u events first reads disk s → IsStopOf u events disk s.facts stop → IsHalted u events reads disk s.facts stop
+pub halted_at : (u : Update) (events : List ChildEvent) (first : List LogLine) (reads : List Read) (disk : Disk) (s : Sights) (stop : FilesStop) → IsUnderWay u events first reads disk s → IsStopOf u events disk s.facts stop → IsHalted u events reads disk s.facts stop
 halted_at u events first reads disk s stop w big = record { sound = w.sound; cut = going_cut u events first reads disk s.journal (is_going u events first reads disk s w); once = w.once; leave = w.leave; too_big = big }
 
 module _ (u : Update) (events : List ChildEvent) (first : List LogLine) (step : Step) (numbers : StepNumbers) (members : List (List ℕ × Value)) (number : ℕ) (at : step_at u.build.steps number ≡ Some step) (needed : Needed u events number) (closure : IsClosure u.build (on_settled u events) step members) where
@@ -103,7 +103,7 @@ module _ (u : Update) (events : List ChildEvent) (first : List LogLine) (step : 
       (more, adds, under_from u events first reads (reads ++ more) disk disk s t s.journal w go same way sight lined blank)
 
   -- a file of the step that is too big is one
-  pub big_of_step : (reads : List Read) (disk : Disk) (t : Sights) (stop : Stop) → (Contains events (Start number) → ⊥) → AreNumbersOf step members t.facts numbers → IsUnderWay u events first reads disk t → IsTooBigOf (IsOfStep numbers) t.facts disk.now stop → IfTooBig ((u.by_digest ≡ true) × (step.notfile ≡ false)) stop → IsStopOf u events disk t.facts stop
+  pub big_of_step : (reads : List Read) (disk : Disk) (t : Sights) (stop : FilesStop) → (Contains events (Start number) → ⊥) → AreNumbersOf step members t.facts numbers → IsUnderWay u events first reads disk t → IsTooBigOf (IsOfStep numbers) t.facts disk.now stop → IfTooBig ((u.by_digest ≡ true) × (step.notfile ≡ false)) stop → IsStopOf u events disk t.facts stop
   big_of_step reads disk t stops.Host not named w big only = tt
   big_of_step reads disk t stops.OutOfMemory not named w big only = tt
   big_of_step reads disk t (stops.TooBig n size) not named w (inl out, told) (on, owes) = (
@@ -126,7 +126,7 @@ others_same u events step now log more same i other members at differ not inside
 -- ---- the verdict
 
 -- what a judgement tells where the files stay as they are
-pub judge_by : (way : Way) (step : Step) (numbers : StepNumbers) (x y : Outside) (s t : Sights) (r : Result Bool Stop) → y.disk ≡ x.disk
+pub judge_by : (way : JudgingMode) (step : Step) (numbers : StepNumbers) (x y : Outside) (s t : Sights) (r : Result Bool FilesStop) → y.disk ≡ x.disk
     → ((disk : Disk) → x.disk ≡ Some disk → (u : Update) (events : List ChildEvent) (first : List LogLine) (reads : List Read) (members : List (List ℕ × Value)) → JudgesSo u way → Distinguishes u disk.past → IsToJudge u events step numbers members s.facts → HaveScanLines u events members disk.now s.journal
     → IsUnderWay u events first reads disk s → GoesOnWith u events first reads (λ fresh. IsVerdict u events disk.now t.journal step members fresh × OthersStayNoted u events step disk.now s.journal disk.now t.journal) x y disk t r)
     → JudgeTold way step numbers x s y t r
@@ -135,7 +135,7 @@ judge_by way step numbers x y s t r same f = both_same (λ before after. (u : Up
     → GoesOnWith u events first reads (λ fresh. IsVerdict u events after.now t.journal step members fresh × OthersStayNoted u events step before.now s.journal after.now t.journal) x y after t r) x.disk y.disk same f
 
 -- A verdict was given, or work stopped: the step's files were asked for.
-module _ {T : Type 0} (way : Way) (step : Step) (numbers : StepNumbers) (last : Option Record) (x y : Outside) (s t : Sights) (r : Result T Stop) (asks : Asks (IsOfStep numbers) (LastTellsUnless way.all last) s.facts t.facts x y r) (unread : way.by_digest ≡ false → y.reads ≡ x.reads)
+module _ {T : Type 0} (way : JudgingMode) (step : Step) (numbers : StepNumbers) (last : Option Record) (x y : Outside) (s t : Sights) (r : Result T FilesStop) (asks : Asks (IsOfStep numbers) (LastTellsUnless way.all last) s.facts t.facts x y r) (unread : way.by_digest ≡ false → y.reads ≡ x.reads)
     (found : find_record step.outs s.journal ≡ last) (same : t.journal ≡ s.journal) (digests : t.by_digest ≡ s.by_digest) where
   pub verdict_under : (disk : Disk) → x.disk ≡ Some disk → (u : Update) (events : List ChildEvent) (first : List LogLine) (reads : List Read) (members : List (List ℕ × Value)) → JudgesSo u way → (to : IsToJudge u events step numbers members s.facts) → HaveScanLines u events members disk.now s.journal
       → IsUnderWay u events first reads disk s → (more : List Read) × AddsReads more x.reads y.reads × IsUnderWay u events first (reads ++ more) disk t
@@ -145,7 +145,7 @@ module _ {T : Type 0} (way : Way) (step : Step) (numbers : StepNumbers) (last : 
       under_asked u events first step numbers members to.number to.at to.needed to.closure to.not_started s t x y reads disk here same digests asks.effect (λ off. unread (sym so.by_digest ∙ off)) asks.learns.learns asks.learns.includes (stays holds) to.named have w
 
 -- work on a verdict stopped
-pub judge_stopped : (way : Way) (step : Step) (numbers : StepNumbers) (last : Option Record) (x y : Outside) (s t : Sights) (stop : Stop) → Asks {T = Option Point} (IsOfStep numbers) (LastTellsUnless way.all last) s.facts t.facts x y (Err stop) → (way.by_digest ≡ false → y.reads ≡ x.reads)
+pub judge_stopped : (way : JudgingMode) (step : Step) (numbers : StepNumbers) (last : Option Record) (x y : Outside) (s t : Sights) (stop : FilesStop) → Asks {T = Option Point} (IsOfStep numbers) (LastTellsUnless way.all last) s.facts t.facts x y (Err stop) → (way.by_digest ≡ false → y.reads ≡ x.reads)
     → IfTooBig ((way.by_digest ≡ true) × IsOrdinary way.all step) stop → find_record step.outs s.journal ≡ last → t.journal ≡ s.journal → t.by_digest ≡ s.by_digest → JudgeTold way step numbers x s y t (Err stop)
 judge_stopped way step numbers last x y s t stop asks unread only found same digests = judge_by way step numbers x y s t (Err stop) asks.effect.files (λ disk here u events first reads members so distinct to have w.
     let (more, adds, later) = verdict_under {T = Option Point} way step numbers last x y s t (Err stop) asks unread found same digests disk here u events first reads members so to have w in
@@ -155,13 +155,13 @@ judge_stopped way step numbers last x y s t stop asks unread only found same dig
     let big = big_of_step u events first step numbers members to.number to.at to.needed to.closure (reads ++ more) disk t stop to.not_started named later told (only_so u stop so only) in
     record { more = more; adds = adds; after = halted_at u events first (reads ++ more) disk t stop later big })
   where
-    only_so : (u : Update) (stop : Stop) → JudgesSo u way → IfTooBig ((way.by_digest ≡ true) × IsOrdinary way.all step) stop → IfTooBig ((u.by_digest ≡ true) × (step.notfile ≡ false)) stop
+    only_so : (u : Update) (stop : FilesStop) → JudgesSo u way → IfTooBig ((way.by_digest ≡ true) × IsOrdinary way.all step) stop → IfTooBig ((u.by_digest ≡ true) × (step.notfile ≡ false)) stop
     only_so u stops.Host so is = tt
     only_so u stops.OutOfMemory so is = tt
     only_so u (stops.TooBig n size) so (on, ordinary) = (so.by_digest ∙ on, ordinary.not_notfile)
 
 -- a step was judged stale
-pub judge_stale : (way : Way) (step : Step) (numbers : StepNumbers) (last : Option Record) (x y : Outside) (s t : Sights) (point : Point) → Asks (IsOfStep numbers) (LastTellsUnless way.all last) s.facts t.facts x y (Ok (Some point)) → (way.by_digest ≡ false → y.reads ≡ x.reads)
+pub judge_stale : (way : JudgingMode) (step : Step) (numbers : StepNumbers) (last : Option Record) (x y : Outside) (s t : Sights) (point : Point) → Asks (IsOfStep numbers) (LastTellsUnless way.all last) s.facts t.facts x y (Ok (Some point)) → (way.by_digest ≡ false → y.reads ≡ x.reads)
     → IsPoint x.disk way step numbers last t.facts (Some point) → find_record step.outs s.journal ≡ last → t.journal ≡ s.journal → t.by_digest ≡ s.by_digest → JudgeTold way step numbers x s y t (Ok false)
 judge_stale way step numbers last x y s t point asks unread is found same digests = judge_by way step numbers x y s t (Ok false) asks.effect.files (λ disk here u events first reads members so distinct to have w.
     let (more, adds, later) = verdict_under {T = Option Point} way step numbers last x y s t (Ok (Some point)) asks unread found same digests disk here u events first reads members so to have w in
@@ -171,7 +171,7 @@ judge_stale way step numbers last x y s t point asks unread is found same digest
     record { more = more; adds = adds; after = ((stale_is u events first step numbers members to.number to.at to.needed to.closure reads disk s.journal point w.tells go to.not_started tells, others_same u events step disk.now s.journal t.journal same), later) })
 
 -- a step was judged fresh, by stamps
-pub judge_fresh : (way : Way) (step : Step) (numbers : StepNumbers) (last : Option Record) (x y : Outside) (s t : Sights) → Asks {T = Option Point} (IsOfStep numbers) (LastTellsUnless way.all last) s.facts t.facts x y (Ok None) → (way.by_digest ≡ false → y.reads ≡ x.reads)
+pub judge_fresh : (way : JudgingMode) (step : Step) (numbers : StepNumbers) (last : Option Record) (x y : Outside) (s t : Sights) → Asks {T = Option Point} (IsOfStep numbers) (LastTellsUnless way.all last) s.facts t.facts x y (Ok None) → (way.by_digest ≡ false → y.reads ≡ x.reads)
     → IsPoint x.disk way step numbers last t.facts None → way.by_digest ≡ false → find_record step.outs s.journal ≡ last → t.journal ≡ s.journal → t.by_digest ≡ s.by_digest → JudgeTold way step numbers x s y t (Ok true)
 judge_fresh way step numbers last x y s t asks unread is off found same digests = judge_by way step numbers x y s t (Ok true) asks.effect.files (λ disk here u events first reads members so distinct to have w.
     let (more, adds, later) = verdict_under {T = Option Point} way step numbers last x y s t (Ok None) asks unread found same digests disk here u events first reads members so to have w in
@@ -193,12 +193,12 @@ both_after Q R x y z same f told = go x z (subst (λ o. BothTold Q o z) same tol
     go (Some d) (Some e) q f = f d e refl q
 
 -- the one says yes where the other goes on, and stops where it does
-abbrev pub HandsOn : Result (Unit {0}) Stop → Result Bool Stop → Type 0
+abbrev pub HandsOn : Result (Unit {0}) FilesStop → Result Bool FilesStop → Type 0
 HandsOn (Ok x) result = result ≡ Ok true
 HandsOn (Err stop) result = result ≡ Err stop
 
 -- a step was judged fresh by digests, and is to have its record
-pub judge_migrated : (way : Way) (step : Step) (numbers : StepNumbers) (last : Option Record) (x y z : Outside) (s t v : Sights) (r : Result (Unit {0}) Stop) (result : Result Bool Stop) → Asks {T = Option Point} (IsOfStep numbers) (LastTellsUnless way.all last) s.facts t.facts x y (Ok None) → (way.by_digest ≡ false → y.reads ≡ x.reads)
+pub judge_migrated : (way : JudgingMode) (step : Step) (numbers : StepNumbers) (last : Option Record) (x y z : Outside) (s t v : Sights) (r : Result (Unit {0}) FilesStop) (result : Result Bool FilesStop) → Asks {T = Option Point} (IsOfStep numbers) (LastTellsUnless way.all last) s.facts t.facts x y (Ok None) → (way.by_digest ≡ false → y.reads ≡ x.reads)
     → IsPoint x.disk way step numbers last t.facts None → way.by_digest ≡ true → find_record step.outs s.journal ≡ last → t.journal ≡ s.journal → t.by_digest ≡ s.by_digest → MigrateTold step numbers y t z v r → HandsOn r result → JudgeTold way step numbers x s z v result
 judge_migrated way step numbers last x y z s t v r result asks unread is on found same digests migrates hands = both_after (λ before after. (u : Update) (events : List ChildEvent) (first : List LogLine) (reads : List Read) (members : List (List ℕ × Value)) → Distinguishes u after.past
     → IsToMigrate u events step members → AreNumbersOf step members t.facts numbers → HaveScanLines u events members before.now t.journal → IsUnderWay u events first reads before t
@@ -220,7 +220,7 @@ judge_migrated way step numbers last x y z s t v r result asks unread is on foun
       after = ended u events first reads more next.more members disk after fresh r result hands next.after;
     }) migrates
   where
-    ended : (u : Update) (events : List ChildEvent) (first : List LogLine) (reads more rest : List Read) (members : List (List ℕ × Value)) (disk after : Disk) → IsFresh u events step members → (r : Result (Unit {0}) Stop) (result : Result Bool Stop) → HandsOn r result
+    ended : (u : Update) (events : List ChildEvent) (first : List LogLine) (reads more rest : List Read) (members : List (List ℕ × Value)) (disk after : Disk) → IsFresh u events step members → (r : Result (Unit {0}) FilesStop) (result : Result Bool FilesStop) → HandsOn r result
         → MatchResult r (λ w. (IsNotedStep u after.now v.journal step members × OthersStayNoted u events step disk.now t.journal after.now v.journal) × IsUnderWay u events first ((reads ++ more) ++ rest) after v) (λ stop. IsHalted u events ((reads ++ more) ++ rest) after v.facts stop)
         → MatchResult result (λ b. (IsVerdict u events after.now v.journal step members b × OthersStayNoted u events step disk.now s.journal after.now v.journal) × IsUnderWay u events first (reads ++ (more ++ rest)) after v) (λ stop. IsHalted u events (reads ++ (more ++ rest)) after v.facts stop)
     ended u events first reads more rest members disk after fresh (Ok w) result hands ((noted, others), later) = subst (λ q. MatchResult q (λ b. (IsVerdict u events after.now v.journal step members b × OthersStayNoted u events step disk.now s.journal after.now v.journal) × IsUnderWay u events first (reads ++ (more ++ rest)) after v) (λ stop. IsHalted u events (reads ++ (more ++ rest)) after v.facts stop)) (sym hands)

@@ -6,13 +6,13 @@ use Rattle.b2_plan.specs.declared.step.Step.{Step}
 use Rattle.b2_plan.specs.declared.plan.Plan.{Plan}
 use Rattle.b2_plan.specs.Plans.{step_at, Apart}
 use Rattle.b2_sched.specs.Schedules.{IsUnjudged, IsStep}
-use Rattle.b2_facts.specs.declared.stop.Stop.{Stop}
+use Rattle.b2_facts.specs.declared.stop.FilesStop.{FilesStop}
 use Rattle.b2_facts.specs.Facts.{Knowledge, IsNumber, IsAbout}
 use Rattle.b2_facts.specs.Growth.{Grows, Learns, OfNone, IncludesStay}
 use Rattle.b2_facts.proofs.FactsGrow.{grows_then, number_grows}
 use Rattle.b2_reach.specs.declared.sights.Sights.{Sights}
 use Rattle.b2_verdicts.specs.declared.step_numbers.StepNumbers.{StepNumbers}
-use Rattle.b2_verdicts.specs.Calls.{IsOfStep}
+use Rattle.b2_verdicts.specs.VerdictCalls.{IsOfStep}
 use Rattle.b2_board.specs.Works.{IsWorkOn, IsClosed}
 use Rattle.b2_board.specs.Boards.{IsBoard, IsOver, members_in, members_of}
 use Rattle.b2_board.proofs.WorkStaysInOrder.{makers_grow, looked_grows, closed_grows}
@@ -92,7 +92,7 @@ module _ (plan : Plan) (number : ℕ) (f : Knowledge) (l : Looks) (apart : Apart
     judgement_entered fresh m is_step judged board = judged_looks number numbers l m is_step.within unjudged plan g fresh step (members_of l.board number) (within_ready is_step) at (λ n among. number_grows f g grown n (member_number n among))
         (λ n k file among known made. later_closed.settled k (record { number = n; among = subst (λ ms. Contains ms n) members_are among; file = file; file_is = known; made = made })) later_files later_looks (board plan g later_over later_looks.board) judged
 
-    pub judgement_looks : {T : Type 0} (s t v : Sights) (x y : Outside) (r : Result T Stop) → s.facts ≡ f → v.facts ≡ g → t.by_digest ≡ s.by_digest → LooksAtFiles plan.steps plan.roots (IsOfStep numbers) t x v y r → LooksAtFiles plan.steps plan.roots (IsOfUnstarted l.board.sched v.facts) s x v y r
+    pub judgement_looks : {T : Type 0} (s t v : Sights) (x y : Outside) (r : Result T FilesStop) → s.facts ≡ f → v.facts ≡ g → t.by_digest ≡ s.by_digest → LooksAtFiles plan.steps plan.roots (IsOfStep numbers) t x v y r → LooksAtFiles plan.steps plan.roots (IsOfUnstarted l.board.sched v.facts) s x v y r
     judgement_looks s t v x y r old new way a = record {
       only_log = a.only_log;
       faults = a.faults;

@@ -25,7 +25,7 @@ use Rattle.b2_runs.proofs.NotedAfterEachEvent.{other_outs}
 use Rattle.b2_sched.specs.declared.state.State.{State}
 use Rattle.b2_sched.specs.declared.state.State.TheVariants as states
 use Rattle.b2_sched.specs.Schedules.{Schedule, state_of, IsUnjudged, IsSettled, IsStep, IsNeeded}
-use Rattle.b2_facts.specs.declared.stop.Stop.{Stop}
+use Rattle.b2_facts.specs.declared.stop.FilesStop.{FilesStop}
 use Rattle.b2_facts.specs.Facts.{Knowledge, IsAbout}
 use Rattle.b2_facts.specs.Growth.{Grows, Learns, OfNone}
 use Rattle.b2_facts.specs.Truth.{IsBuildOf, StaysTrue}
@@ -37,7 +37,7 @@ use Rattle.b2_reach.specs.Laws.{IsTrueInRun}
 use Rattle.b2_reach.proofs.TruthIsKept.{sight_grows}
 use Rattle.b2_reach.proofs.LinesAreThere.{lined_as_facts_grow}
 use Rattle.b2_verdicts.specs.declared.step_numbers.StepNumbers.{StepNumbers}
-use Rattle.b2_verdicts.specs.Calls.{IsOfStep}
+use Rattle.b2_verdicts.specs.VerdictCalls.{IsOfStep}
 use Rattle.b2_verdicts.specs.Cases.{AreNumbersOf}
 use Rattle.b2_board.specs.Works.{IsWorkOn}
 use Rattle.b2_board.specs.Boards.{IsOver, members_in, members_of}
@@ -206,7 +206,7 @@ module _ (plan : Plan) (number : ℕ) (l : Looks) (s : Sights) (g : Knowledge) (
     judges_so = record { all = by.all; by_digest = by.by_digest }
 
   -- work on it stopped
-  pub judgement_stopped : (x y : Outside) (v : Sights) (n : Looks) (stop : Stop) → JudgeTold l.way step numbers x numbered_sights y v (Err stop) → LookTold {T = Unit {0}} plan x l s y n v (Err stop)
+  pub judgement_stopped : (x y : Outside) (v : Sights) (n : Looks) (stop : FilesStop) → JudgeTold l.way step numbers x numbered_sights y v (Err stop) → LookTold {T = Unit {0}} plan x l s y n v (Err stop)
   judgement_stopped x y v n stop told = judged_by x.disk y.disk told (λ before after one u events first reads by distinct follows under looks.
       let p = one u events first reads (found u events first reads before by follows under looks).members (judges_so u events first reads before by follows under looks) distinct (to_judge u events first reads before by follows under looks) (have_lines u events first reads before by follows under looks) (under_numbered u events first reads before by follows under looks) in
       record { more = p.more; adds = p.adds; after = p.after })

@@ -41,9 +41,9 @@ use Rattle.b2_reach.proofs.LinesAreThere.{line_still, lined_grows}
 use Rattle.b2_reach.proofs.TruthIsKept.{sight_grows}
 use Rattle.b2_verdicts.specs.declared.step_numbers.StepNumbers.{StepNumbers}
 use Rattle.b2_verdicts.specs.declared.point.Point.{Point}
-use Rattle.b2_verdicts.specs.declared.way.Way.{Way}
+use Rattle.b2_verdicts.specs.declared.judging_mode.JudgingMode.{JudgingMode}
 use Rattle.b2_verdicts.specs.Points.{IsPoint, IsPointBy}
-use Rattle.b2_verdicts.specs.Calls.{IsOfStep, IsUndigested, IsReadNow, ReadsOnly, RecordTells, LastTellsUnless}
+use Rattle.b2_verdicts.specs.VerdictCalls.{IsOfStep, IsUndigested, IsReadNow, ReadsOnly, RecordTells, LastTellsUnless}
 use Rattle.b2_verdicts.specs.Cases.{AreNumbersOf, IsNotfileTold, IsDoneTold, IsCase, Tells}
 use Rattle.b2_verdicts.proofs.TrueFactsTell.{bytes_among}
 use Rattle.b2_verdicts.proofs.VerdictsTell.{verdict_tells}
@@ -167,7 +167,7 @@ module _ (u : Update) (events : List ChildEvent) (first : List LogLine) (step : 
       go (Some rec) e = λ digests has. digests_tell (making u) disk rec digests w.sound.keeps (records_true u events first reads disk log w scans (same ∙ off) rec (found_is_there step.outs log rec e).0) has
 
   -- the verdict by what is known is that of the update
-  pub verdict_is : (f g : Knowledge) (reads : List Read) (disk : Disk) (log : List LogLine) (last : Option Record) (way : Way) (o : Option Disk) (point : Option Point) → o ≡ Some disk → IsUpdateOf u.build.steps u.build.roots u → IsGoing u events first reads disk log → JudgesSo u way
+  pub verdict_is : (f g : Knowledge) (reads : List Read) (disk : Disk) (log : List LogLine) (last : Option Record) (way : JudgingMode) (o : Option Disk) (point : Option Point) → o ≡ Some disk → IsUpdateOf u.build.steps u.build.roots u → IsGoing u events first reads disk log → JudgesSo u way
       → Grows f g → AreNumbersOf step members f numbers → IsNotfileTold members f numbers.notfile → IsDoneTold u events members f numbers.done → find_record step.outs log ≡ last → AreTrue u.build disk.now g → IsPoint o way step numbers last g point → Tells (at_present u disk.now log) events step members point
   verdict_is f g reads disk log last way o point here update w so grows named notfile done found holds is =
       let by : IsPointBy u.by_digest (Some disk) u.all step numbers last g point =

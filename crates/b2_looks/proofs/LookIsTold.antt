@@ -21,9 +21,9 @@ use Rattle.b2_runs.specs.FileReads.{IsInput, IsTooBig.to_scan as big_to_scan}
 use Rattle.b2_runs.proofs.NeededByNumbers.{needed_by_numbers}
 use Rattle.b2_runs.proofs.ClosureByPresent.{seen_is_clean}
 use Rattle.b2_sched.specs.Schedules.{Schedule, state_of, IsStep, IsSettled, IsNeeded, IsFirst, Needs}
-use Rattle.b2_facts.specs.declared.stop.Stop.{Stop}
-use Rattle.b2_facts.specs.declared.stop.Stop.TheVariants as stops
-use Rattle.b2_facts.specs.declared.file_facts.Seen.TheVariants as seen
+use Rattle.b2_facts.specs.declared.stop.FilesStop.{FilesStop}
+use Rattle.b2_facts.specs.declared.stop.FilesStop.TheVariants as stops
+use Rattle.b2_facts.specs.declared.file_facts.FileLook.TheVariants as seen
 use Rattle.b2_facts.specs.Facts.{path_at}
 use Rattle.b2_facts.specs.Truth.{IsBuildOf, IsReadAs}
 use Rattle.b2_facts.proofs.ListsAtPlaces.{some_is, get_some}
@@ -84,7 +84,7 @@ module _ (plan : Plan) (number : ℕ) (l : Looks) (board : Board) (s t : Sights)
   the_step : (step : Step) × (step_at plan.steps number ≡ Some step)
   the_step = let low = is_step.within in let size = is.board.size in plan_step plan.steps number is_step.some (omega (arith, low, size))
 
-  module _ {T : Type 0} (r : Result T Stop) (grows : LearnsMore true plan.steps plan.roots (IsSettled l.board.sched) (members_of board number) s x t y r) (u : Update) (events : List ChildEvent) (first : List LogLine) (reads : List Read) (before after : Disk) (before_is : x.disk ≡ Some before) (after_is : y.disk ≡ Some after)
+  module _ {T : Type 0} (r : Result T FilesStop) (grows : LearnsMore true plan.steps plan.roots (IsSettled l.board.sched) (members_of board number) s x t y r) (u : Update) (events : List ChildEvent) (first : List LogLine) (reads : List Read) (before after : Disk) (before_is : x.disk ≡ Some before) (after_is : y.disk ≡ Some after)
       (by : IsUpdateBy plan l u) (distinct : Distinguishes u after.past) (under : IsUnderWay u events first reads before s) (looks : AreTrueLooks u events before s l) where
     build : IsBuildOf plan.steps plan.roots u.build
     build = record { steps_are = by.steps; roots_are = by.roots; inc = under.update.build.inc; looks = under.update.build.looks }
@@ -141,7 +141,7 @@ module _ (plan : Plan) (number : ℕ) (l : Looks) (board : Board) (s t : Sights)
     ends : Ends u events first plan.steps (IsSettled l.board.sched) t.facts (members_of board number) after distinct called x reads s.journal before y
     ends disk disk_is old among = subst (λ (d : Disk). Contains d.past old) (some_is disk after (sym disk_is ∙ after_is)) among
 
-    big : (stop : Stop) → TellsTooBig {T = T} plan.steps (IsSettled l.board.sched) t.facts (members_of board number) y (Err stop) → IsStopOf u events after t.facts stop
+    big : (stop : FilesStop) → TellsTooBig {T = T} plan.steps (IsSettled l.board.sched) t.facts (members_of board number) y (Err stop) → IsStopOf u events after t.facts stop
     big stops.Host told = tt
     big stops.OutOfMemory told = tt
     big (stops.TooBig n size) told = go (work_at board.works.items number) refl
@@ -179,7 +179,7 @@ module _ (plan : Plan) (number : ℕ) (l : Looks) (board : Board) (s t : Sights)
       })
 
   -- it stopped
-  pub look_stopped : {T : Type 0} (stop : Stop) → LearnsMore {T = T} true plan.steps plan.roots (IsSettled l.board.sched) (members_of board number) s x t y (Err stop) → LookTold {T = T} plan x l s y (record l { board = board }) t (Err stop)
+  pub look_stopped : {T : Type 0} (stop : FilesStop) → LearnsMore {T = T} true plan.steps plan.roots (IsSettled l.board.sched) (members_of board number) s x t y (Err stop) → LookTold {T = T} plan x l s y (record l { board = board }) t (Err stop)
   look_stopped {T} stop grows = both_by (ChangesOnlyAt log_path) (Tells {T = T} plan x l s y (record l { board = board }) t (Err stop)) x.disk y.disk grows.only_log.files (λ before after before_is after_is u events first reads by distinct follows under looks.
       let h = stop_on u events first plan.steps (IsSettled l.board.sched) t.facts (members_of board number) after distinct (called {T = T} (Err stop) grows u events first reads before after before_is after_is by distinct under looks) x reads s.journal before t.facts s.journal t.journal x y grows.course
       (ends {T = T} (Err stop) grows u events first reads before after before_is after_is by distinct under looks) (started {T = T} (Err stop) grows u events first reads before after before_is after_is by distinct under looks) after after_is in

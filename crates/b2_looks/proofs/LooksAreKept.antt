@@ -16,7 +16,7 @@ use Rattle.b2_sched.specs.declared.state.State.{State}
 use Rattle.b2_sched.specs.declared.state.State.TheVariants as states
 use Rattle.b2_sched.specs.NumberSets.{Has}
 use Rattle.b2_sched.specs.Schedules.{Schedule, state_of, IsUnjudged, IsSettled, Needs, IsFirst, IsNeeded, is_running, running}
-use Rattle.b2_sched.specs.Calls.{Settles, is_empty}
+use Rattle.b2_sched.specs.SchedulerCalls.{Settles, is_empty}
 use Rattle.b2_sched.specs.Keeping.{is_unjudged}
 use Rattle.b2_sched.proofs.ChangesKeepTheInvariant.{needed_more}
 use Rattle.b2_facts.specs.declared.file_facts.FileFacts.{FileFacts}

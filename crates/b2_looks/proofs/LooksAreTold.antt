@@ -15,12 +15,12 @@ use Rattle.b2_log.specs.declared.line.LogLine.{LogLine}
 use Rattle.b2_runs.specs.Staleness.{Update}
 use Rattle.b2_runs.specs.Soundness.{Distinguishes}
 use Rattle.b2_runs.proofs.RecordIsTrue.{distinguishes_less}
-use Rattle.b2_sched.specs.Calls.{looked_at}
-use Rattle.b2_facts.specs.declared.stop.Stop.{Stop}
-use Rattle.b2_facts.specs.declared.stop.Stop.TheVariants as stops
+use Rattle.b2_sched.specs.SchedulerCalls.{looked_at}
+use Rattle.b2_facts.specs.declared.stop.FilesStop.{FilesStop}
+use Rattle.b2_facts.specs.declared.stop.FilesStop.TheVariants as stops
 use Rattle.b2_reach.specs.declared.sights.Sights.{Sights}
 use Rattle.b2_reach.proofs.GrowthComposes.{both_same}
-use Rattle.b2_verdicts.specs.declared.way.Way.{Way}
+use Rattle.b2_verdicts.specs.declared.judging_mode.JudgingMode.{JudgingMode}
 use Rattle.b2_board.specs.declared.board.Board.{Board}
 use Rattle.b2_looks.specs.declared.looks.Looks.{Looks}
 use Rattle.b2_looks.specs.Looks.{LooksOn, Follows}
@@ -30,7 +30,7 @@ use Rattle.b2_looks.proofs.LooksAreKept.{follows_on}
 use Rattle.b2_looks.proofs.StepsAreLookedAt.{taken_state}
 
 -- what it tells of disks
-abbrev pub Tells : {T : Type 0} → Plan → Outside → Looks → Sights → Outside → Looks → Sights → Result T Stop → Disk → Disk → Type 0
+abbrev pub Tells : {T : Type 0} → Plan → Outside → Looks → Sights → Outside → Looks → Sights → Result T FilesStop → Disk → Disk → Type 0
 Tells plan old l s new k t result = λ before after. (u : Update) (events : List ChildEvent) (first : List LogLine) (reads : List Read) → IsUpdateBy plan l u → Distinguishes u after.past → Follows events l
     → IsUnderWay u events first reads before s → AreTrueLooks u events before s l → GoesOn u events first reads old new after k t result
 
@@ -38,20 +38,20 @@ pub told_none : {T : Type 0} (plan : Plan) (x : Outside) (l : Looks) (s : Sights
 told_none plan x l s v = both_same (Tells plan x l s x l s (Ok v)) x.disk x.disk refl (λ disk here u events first reads by distinct follows w looks.
     record { more = []; adds = adds_none x.reads x.reads refl; after = (subst (λ l. IsUnderWay u events first l disk s) (sym (append-nil reads)) w, looks) })
 
-three : (A B R : Disk → Disk → Type 0) (x y z : Option Disk) → BothTold A x y → BothTold B y z → BothTold (ChangesOnlyAt log_path) y z → ((a b c : Disk) → A a b → B b c → ChangesOnlyAt log_path b c → R a c) → BothTold R x z
-three A B R None None None p q only f = tt
-three A B R None None (Some c) p q only f = absurd q
-three A B R None (Some b) z p q only f = absurd p
-three A B R (Some a) None z p q only f = absurd p
-three A B R (Some a) (Some b) None p q only f = absurd q
-three A B R (Some a) (Some b) (Some c) p q only f = f a b c p q only
+told_through : (A B R : Disk → Disk → Type 0) (x y z : Option Disk) → BothTold A x y → BothTold B y z → BothTold (ChangesOnlyAt log_path) y z → ((a b c : Disk) → A a b → B b c → ChangesOnlyAt log_path b c → R a c) → BothTold R x z
+told_through A B R None None None p q only f = tt
+told_through A B R None None (Some c) p q only f = absurd q
+told_through A B R None (Some b) z p q only f = absurd p
+told_through A B R (Some a) None z p q only f = absurd p
+told_through A B R (Some a) (Some b) None p q only f = absurd q
+told_through A B R (Some a) (Some b) (Some c) p q only f = f a b c p q only
 
 update_on : (plan : Plan) (l m : Looks) (u : Update) → LooksOn l m → m.way ≡ l.way → IsUpdateBy plan l u → IsUpdateBy plan m u
-update_on plan l m u on way by = record { steps = by.steps; roots = by.roots; wanted = by.wanted; all = by.all ∙ sym (ap (λ (w : Way). w.all) way); by_digest = by.by_digest ∙ sym (ap (λ (w : Way). w.by_digest) way); jobs = by.jobs ∙ sym on.jobs }
+update_on plan l m u on way by = record { steps = by.steps; roots = by.roots; wanted = by.wanted; all = by.all ∙ sym (ap (λ (w : JudgingMode). w.all) way); by_digest = by.by_digest ∙ sym (ap (λ (w : JudgingMode). w.by_digest) way); jobs = by.jobs ∙ sym on.jobs }
 
 -- one look, and then another
-pub told_then : {T S : Type 0} (plan : Plan) (x y z : Outside) (l m n : Looks) (s t w : Sights) (v : T) (r : Result S Stop) → LooksOn l m → m.way ≡ l.way → BothTold (ChangesOnlyAt log_path) y.disk z.disk → LookTold plan x l s y m t (Ok v) → LookTold plan y m t z n w r → LookTold plan x l s z n w r
-told_then plan x y z l m n s t w v r on way only a b = three (Tells plan x l s y m t (Ok v)) (Tells plan y m t z n w r) (Tells plan x l s z n w r) x.disk y.disk z.disk a b only (λ before between after one two moved u events first reads by distinct follows under looks.
+pub told_then : {T S : Type 0} (plan : Plan) (x y z : Outside) (l m n : Looks) (s t w : Sights) (v : T) (r : Result S FilesStop) → LooksOn l m → m.way ≡ l.way → BothTold (ChangesOnlyAt log_path) y.disk z.disk → LookTold plan x l s y m t (Ok v) → LookTold plan y m t z n w r → LookTold plan x l s z n w r
+told_then plan x y z l m n s t w v r on way only a b = told_through (Tells plan x l s y m t (Ok v)) (Tells plan y m t z n w r) (Tells plan x l s z n w r) x.disk y.disk z.disk a b only (λ before between after one two moved u events first reads by distinct follows under looks.
     let less = distinguishes_less u between.past after.past (λ old among. subst (λ p. Contains p old) (sym moved.past) (Contains-append_left between.past moved.more old among)) distinct in
     let p = one u events first reads by less follows under looks in
     let q = two u events first (reads ++ p.more) (update_on plan l m u on way by) distinct (follows_on events l m on follows) p.after.0 p.after.1 in
@@ -68,7 +68,7 @@ both_map A R (Some a) None f p = absurd p
 both_map A R (Some a) (Some b) f p = f a b p
 
 -- a stop is handed on
-pub told_err : (T S : Type 0) (plan : Plan) (x y : Outside) (l m : Looks) (s t : Sights) (stop : Stop) (r : Result S Stop) → r ≡ Err stop → LookTold {T = T} plan x l s y m t (Err stop) → LookTold {T = S} plan x l s y m t r
+pub told_err : (T S : Type 0) (plan : Plan) (x y : Outside) (l m : Looks) (s t : Sights) (stop : FilesStop) (r : Result S FilesStop) → r ≡ Err stop → LookTold {T = T} plan x l s y m t (Err stop) → LookTold {T = S} plan x l s y m t r
 told_err T S plan x y l m s t stop r is a = subst (LookTold {T = S} plan x l s y m t) (sym is) (both_map (Tells {T = T} plan x l s y m t (Err stop)) (Tells {T = S} plan x l s y m t (Err stop)) x.disk y.disk (λ before after one u events first reads by distinct follows under looks.
     let p = one u events first reads by distinct follows under looks in
     record { more = p.more; adds = p.adds; after = p.after }) a)
@@ -98,7 +98,7 @@ told_taken plan number x l b s v sched = both_same (Tells plan x l s x (record l
     })
 
 -- no memory was left, with the files as they were
-pub told_no_memory : (T : Type 0) (plan : Plan) (x : Outside) (l m : Looks) (s t : Sights) (r : Result T Stop) → r ≡ Err stops.OutOfMemory → LookTold {T = T} plan x l s x m t r
+pub told_no_memory : (T : Type 0) (plan : Plan) (x : Outside) (l m : Looks) (s t : Sights) (r : Result T FilesStop) → r ≡ Err stops.OutOfMemory → LookTold {T = T} plan x l s x m t r
 told_no_memory T plan x l m s t r is = subst (LookTold {T = T} plan x l s x m t) (sym is) (both_same (Tells {T = T} plan x l s x m t (Err stops.OutOfMemory)) x.disk x.disk refl (λ disk here u events first reads by distinct follows w looks.
     record {
       more = [];

@@ -23,7 +23,7 @@ use Rattle.b2_reach.specs.Files.{IsAtHand, IsAtHand.source as hand_source, IsAtH
 use Rattle.b2_reach.proofs.FoundMakerMakesPath.{maker_makes}
 use Rattle.b2_reach.proofs.ReachGrows.{has_path}
 use Rattle.b2_verdicts.specs.declared.step_numbers.StepNumbers.{StepNumbers}
-use Rattle.b2_verdicts.specs.Calls.{IsOfStep}
+use Rattle.b2_verdicts.specs.VerdictCalls.{IsOfStep}
 use Rattle.b2_looks.specs.declared.looks.Looks.{Looks}
 use Rattle.b2_looks.specs.Looks.{Follows}
 use Rattle.b2_looks.specs.UnderWay.{LooseAreBlank}

@@ -22,8 +22,8 @@ use Rattle.b2_runs.specs.Soundness.{Distinguishes}
 use Rattle.b2_runs.specs.Afterwards.{IsNotedStep}
 use Rattle.b2_runs.specs.LogCourses.{IsToMigrate, HasDigestsAlready}
 use Rattle.b2_journal.specs.Notes.{Notes}
-use Rattle.b2_facts.specs.declared.stop.Stop.{Stop}
-use Rattle.b2_facts.specs.declared.stop.Stop.TheVariants as stops
+use Rattle.b2_facts.specs.declared.stop.FilesStop.{FilesStop}
+use Rattle.b2_facts.specs.declared.stop.FilesStop.TheVariants as stops
 use Rattle.b2_facts.specs.Stops.{stop_of_io}
 use Rattle.b2_facts.specs.Truth.{StaysTrue}
 use Rattle.b2_reach.specs.declared.sights.Sights.{Sights}
@@ -31,7 +31,7 @@ use Rattle.b2_reach.proofs.GrowthComposes.{both_same}
 use Rattle.b2_verdicts.specs.declared.step_numbers.StepNumbers.{StepNumbers}
 use Rattle.b2_verdicts.specs.Sights.{AllAsked, AreNumbers}
 use Rattle.b2_verdicts.specs.Made.{IsMadeOf, IsWithoutFile}
-use Rattle.b2_verdicts.specs.Calls.{IsOfStep, IsTooBigOf, IfTooBig, Always, Asks}
+use Rattle.b2_verdicts.specs.VerdictCalls.{IsOfStep, IsTooBigOf, IfTooBig, Always, Asks}
 use Rattle.b2_verdicts.specs.Cases.{AreNumbersOf}
 use Rattle.b2_looks.specs.UnderWay.{IsUnderWay}
 use Rattle.b2_looks.specs.Judging.{HaveScanLines, OthersStayNoted, GoesOnWith, MigrateTold}
@@ -40,7 +40,7 @@ use Rattle.b2_looks.proofs.JudgementEnds.{halted_at, under_asked, big_of_step}
 use Rattle.b2_looks.proofs.RecordIsGiven.{noted_already, none_missing, not_already, given, given_others, not_given}
 
 -- what it tells of disks
-abbrev Migrates : Step → StepNumbers → Outside → Sights → Outside → Sights → Result (Unit {0}) Stop → Disk → Disk → Type 0
+abbrev Migrates : Step → StepNumbers → Outside → Sights → Outside → Sights → Result (Unit {0}) FilesStop → Disk → Disk → Type 0
 Migrates step numbers old s new t result = λ before after. (u : Update) (events : List ChildEvent) (first : List LogLine) (reads : List Read) (members : List (List ℕ × Value)) → Distinguishes u after.past
     → IsToMigrate u events step members → AreNumbersOf step members s.facts numbers → HaveScanLines u events members before.now s.journal → IsUnderWay u events first reads before s
     → GoesOnWith u events first reads (λ (x : Unit {0}). IsNotedStep u after.now t.journal step members × OthersStayNoted u events step before.now s.journal after.now t.journal) old new after t result
@@ -50,13 +50,13 @@ pub migrated_already : (step : Step) (numbers : StepNumbers) (x : Outside) (s : 
 migrated_already step numbers x s v asked_outs asked_ins there = both_same (Migrates step numbers x s x s (Ok v)) x.disk x.disk refl (λ disk here u events first reads members distinct to named have w.
     record { more = []; adds = adds_none x.reads x.reads refl; after = ((noted_already u events first step numbers members to reads disk s named asked_outs asked_ins there w, λ i other ms at differ not inside had. had), subst (λ l. IsUnderWay u events first l disk s) (sym (append-nil reads)) w) })
 
-any_too_big : (P : Type 0) (stop : Stop) → P → IfTooBig P stop
+any_too_big : (P : Type 0) (stop : FilesStop) → P → IfTooBig P stop
 any_too_big P stops.Host p = tt
 any_too_big P stops.OutOfMemory p = tt
 any_too_big P (stops.TooBig n size) p = p
 
 -- The step's files were asked for.
-module _ {T : Type 0} (step : Step) (numbers : StepNumbers) (x y : Outside) (s t : Sights) (r : Result T Stop) (asks : Asks (IsOfStep numbers) Always s.facts t.facts x y r) (same : t.journal ≡ s.journal) (digests : t.by_digest ≡ s.by_digest) where
+module _ {T : Type 0} (step : Step) (numbers : StepNumbers) (x y : Outside) (s t : Sights) (r : Result T FilesStop) (asks : Asks (IsOfStep numbers) Always s.facts t.facts x y r) (same : t.journal ≡ s.journal) (digests : t.by_digest ≡ s.by_digest) where
   record_under : (disk : Disk) → x.disk ≡ Some disk → (u : Update) (events : List ChildEvent) (first : List LogLine) (reads : List Read) (members : List (List ℕ × Value)) → (to : IsToMigrate u events step members) → AreNumbersOf step members s.facts numbers → HaveScanLines u events members disk.now s.journal
       → IsUnderWay u events first reads disk s → (more : List Read) × AddsReads more x.reads y.reads × IsUnderWay u events first (reads ++ more) disk t
   record_under disk here u events first reads members to named have w =
@@ -67,7 +67,7 @@ module _ {T : Type 0} (step : Step) (numbers : StepNumbers) (x y : Outside) (s t
   record_named u events first members to named = named_grows u events first step numbers members to.number to.at to.needed to.closure s.facts t.facts (asks.learns.learns u.build.steps u.build.roots).grows named
 
 -- work on the record stopped
-pub migrate_stopped : (step : Step) (numbers : StepNumbers) (x y : Outside) (s t : Sights) (stop : Stop) → Asks {T = Option Record} (IsOfStep numbers) Always s.facts t.facts x y (Err stop) → t.journal ≡ s.journal → t.by_digest ≡ s.by_digest → MigrateTold step numbers x s y t (Err stop)
+pub migrate_stopped : (step : Step) (numbers : StepNumbers) (x y : Outside) (s t : Sights) (stop : FilesStop) → Asks {T = Option Record} (IsOfStep numbers) Always s.facts t.facts x y (Err stop) → t.journal ≡ s.journal → t.by_digest ≡ s.by_digest → MigrateTold step numbers x s y t (Err stop)
 migrate_stopped step numbers x y s t stop asks same digests = both_same (Migrates step numbers x s y t (Err stop)) x.disk y.disk asks.effect.files (λ disk here u events first reads members distinct to named have w.
     let (more, adds, later) = record_under {T = Option Record} step numbers x y s t (Err stop) asks same digests disk here u events first reads members to named have w in
     let told = subst (λ o. IfSome o (λ d. IsTooBigOf (IsOfStep numbers) t.facts d.now stop)) here asks.too_big in

@@ -33,7 +33,7 @@ use Rattle.b2_runs.proofs.LastLineIsFound.{outs_same, scans_unsaid}
 use Rattle.b2_runs.proofs.SameByStamp.{stamped_paths}
 use Rattle.b2_runs.proofs.NotedAfterEachEvent.{noted_beside_change, line_for, step_recorded}
 use Rattle.b2_journal.specs.Notes.{HasLines, Notes}
-use Rattle.b2_facts.specs.declared.stop.Stop.TheVariants as stops
+use Rattle.b2_facts.specs.declared.stop.FilesStop.TheVariants as stops
 use Rattle.b2_facts.specs.Stops.{stop_of_io}
 use Rattle.b2_facts.specs.Facts.{Knowledge, IsAbout, path_at}
 use Rattle.b2_facts.specs.Growth.{Grows}

@@ -36,7 +36,7 @@ use Rattle.b2_runs.proofs.NotedAfterEachEvent.{noted_beside_change, line_for}
 use Rattle.b2_runs.proofs.ReadsOnce.{reads_more}
 use Rattle.b2_runs.proofs.ReadsLeaveLines.{lines_after_read}
 use Rattle.b2_runs.proofs.RecordIsTrue.{distinguishes_less}
-use Rattle.b2_facts.specs.declared.stop.Stop.{Stop}
+use Rattle.b2_facts.specs.declared.stop.FilesStop.{FilesStop}
 use Rattle.b2_facts.specs.declared.file_facts.FileFacts.{FileFacts}
 use Rattle.b2_facts.specs.Facts.{Knowledge}
 use Rattle.b2_facts.proofs.ListsAtPlaces.{some_is, none_some}
@@ -229,7 +229,7 @@ module _ (u : Update) (events : List ChildEvent) (first : List LogLine) (steps :
   pub record HasStopped (o : Outside) (g : Knowledge) (disk : Disk) : Type 0 where
     pub more : List Read
     pub adds : AddsReads more x.reads o.reads
-    pub halted : (stop : Stop) → IsStopOf u events disk g stop → IsHalted u events (reads ++ more) disk g stop
+    pub halted : (stop : FilesStop) → IsStopOf u events disk g stop → IsHalted u events (reads ++ more) disk g stop
 
   halted_on : (g : Knowledge) (log : List LogLine) (o : Outside) (disk : Disk) → IsOn o log disk → HasStopped o g disk
   halted_on g log o disk w = record { more = w.more; adds = w.adds; halted = λ stop big. record { sound = w.going.sound; cut = going_cut u events first (reads ++ w.more) disk log w.going; once = w.going.once; leave = w.going.leave; too_big = big } }

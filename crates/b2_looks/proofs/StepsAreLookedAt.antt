@@ -7,9 +7,9 @@ use Rattle.b2_plan.specs.declared.plan.Plan.{Plan}
 use Rattle.b2_sched.specs.declared.state.State.{State}
 use Rattle.b2_sched.specs.declared.state.State.TheVariants as states
 use Rattle.b2_sched.specs.Schedules.{Schedule, state_of, IsUnjudged, IsStale, IsRunning, IsSettled, IsFailed, IsStep, Lacks, running}
-use Rattle.b2_sched.specs.Calls.{looked_at}
+use Rattle.b2_sched.specs.SchedulerCalls.{looked_at}
 use Rattle.b2_sched.proofs.RestIsSkippedOrStuck.{who_runs}
-use Rattle.b2_facts.specs.declared.stop.Stop.{Stop}
+use Rattle.b2_facts.specs.declared.stop.FilesStop.{FilesStop}
 use Rattle.b2_facts.specs.declared.file_facts.FileFacts.{FileFacts}
 use Rattle.b2_facts.specs.Facts.{Knowledge, no_facts}
 use Rattle.b2_facts.specs.Growth.{Learns}
@@ -127,11 +127,11 @@ looks_waited plan number f l seen waits is = record { board = board_waits plan.s
 
 -- ---- what is learned
 
-pub look_learns : {T : Type 0} {notes : Bool} (plan : Plan) (l : Looks) (members : List ℕ) (s t : Sights) (x y : Outside) (r : Result T Stop) → LearnsMore notes plan.steps plan.roots (IsSettled l.board.sched) members s x t y r → LooksAtFiles plan.steps plan.roots (IsOfUnstarted l.board.sched t.facts) s x t y r
+pub look_learns : {T : Type 0} {notes : Bool} (plan : Plan) (l : Looks) (members : List ℕ) (s t : Sights) (x y : Outside) (r : Result T FilesStop) → LearnsMore notes plan.steps plan.roots (IsSettled l.board.sched) members s x t y r → LooksAtFiles plan.steps plan.roots (IsOfUnstarted l.board.sched t.facts) s x t y r
 look_learns plan l members s t x y r a = looks_map plan.steps plan.roots (IsNumberAtHand plan.steps (IsSettled l.board.sched) t.facts) (IsOfUnstarted l.board.sched t.facts) s t x y r (λ n is. at_hand_unstarted plan.steps l.board.sched t.facts n is) (looks_learned plan.steps plan.roots (IsSettled l.board.sched) members s t x y r a)
 
 -- one look, and then another
-pub look_then : {T S : Type 0} (plan : Plan) (l m : Looks) (s t w : Sights) (x y z : Outside) (v : T) (r : Result S Stop) → LooksOn l m → LooksAtFiles plan.steps plan.roots (IsOfUnstarted l.board.sched t.facts) s x t y (Ok v) → LooksAtFiles plan.steps plan.roots (IsOfUnstarted m.board.sched w.facts) t y w z r
+pub look_then : {T S : Type 0} (plan : Plan) (l m : Looks) (s t w : Sights) (x y z : Outside) (v : T) (r : Result S FilesStop) → LooksOn l m → LooksAtFiles plan.steps plan.roots (IsOfUnstarted l.board.sched t.facts) s x t y (Ok v) → LooksAtFiles plan.steps plan.roots (IsOfUnstarted m.board.sched w.facts) t y w z r
     → LooksAtFiles plan.steps plan.roots (IsOfUnstarted l.board.sched w.facts) s x w z r
 look_then plan l m s t w x y z v r on a b = looks_then plan.steps plan.roots (IsOfUnstarted l.board.sched w.facts) s t w x y z v r
     (looks_map plan.steps plan.roots (IsOfUnstarted l.board.sched t.facts) (IsOfUnstarted l.board.sched w.facts) s t x y (Ok v) (λ n is. unstarted_grows l.board.sched t.facts w.facts n b.learns.grows is) a)

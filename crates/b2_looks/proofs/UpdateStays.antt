@@ -28,7 +28,7 @@ use Rattle.b2_runs.proofs.TrueWithLine.{line_grows}
 use Rattle.b2_journal.specs.Notes.{HasLines, IsNoteCut}
 use Rattle.b2_journal.proofs.FailedCallsAreCuts.{note_is_cut}
 use Rattle.b2_reach.specs.declared.sights.Sights.{Sights}
-use Rattle.b2_verdicts.specs.Calls.{IsReadNow}
+use Rattle.b2_verdicts.specs.VerdictCalls.{IsReadNow}
 use Rattle.b2_looks.specs.UnderWay.{IsUnderWay}
 
 -- An update is under way but for what is known of files: what is so of its events, its disk, its log and its reads.

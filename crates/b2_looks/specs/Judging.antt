@@ -17,11 +17,11 @@ use Rattle.b2_runs.specs.Soundness.{Distinguishes}
 use Rattle.b2_runs.specs.FileReads.{StandsWithLine}
 use Rattle.b2_runs.specs.LogCourses.{IsToMigrate}
 use Rattle.b2_runs.specs.Afterwards.{IsNotedStep}
-use Rattle.b2_facts.specs.declared.stop.Stop.{Stop}
+use Rattle.b2_facts.specs.declared.stop.FilesStop.{FilesStop}
 use Rattle.b2_facts.specs.Facts.{Knowledge}
 use Rattle.b2_reach.specs.declared.sights.Sights.{Sights}
 use Rattle.b2_verdicts.specs.declared.step_numbers.StepNumbers.{StepNumbers}
-use Rattle.b2_verdicts.specs.declared.way.Way.{Way}
+use Rattle.b2_verdicts.specs.declared.judging_mode.JudgingMode.{JudgingMode}
 use Rattle.b2_verdicts.specs.Cases.{AreNumbersOf, IsNotfileTold, IsDoneTold}
 use Rattle.b2_looks.specs.UnderWay.{IsUnderWay, IsHalted}
 
@@ -44,7 +44,7 @@ pub record IsToJudge (u : Update) (events : List ChildEvent) (step : Step) (numb
   pub done : IsDoneTold u events members f numbers.done
 
 -- The update judges so.
-pub record JudgesSo (u : Update) (way : Way) : Type 0 where
+pub record JudgesSo (u : Update) (way : JudgingMode) : Type 0 where
   pub all : u.all ≡ way.all
   pub by_digest : u.by_digest ≡ way.by_digest
 
@@ -64,14 +64,14 @@ OthersStayNoted u events step before log after more =
 
 -- an update that is under way is so after a call, with more reads, and P holds of the result; or it has stopped
 pub record GoesOnWith {T : Type 0} (u : Update) (events : List ChildEvent) (first : List LogLine) (reads : List Read)
-    (P : T → Type 0) (old new : Outside) (disk : Disk) (t : Sights) (result : Result T Stop) : Type 0 where
+    (P : T → Type 0) (old new : Outside) (disk : Disk) (t : Sights) (result : Result T FilesStop) : Type 0 where
   pub more : List Read
   pub adds : AddsReads more old.reads new.reads
   pub after : MatchResult result (λ x. P x × IsUnderWay u events first (reads ++ more) disk t)
       (λ stop. IsHalted u events (reads ++ more) disk t.facts stop)
 
 -- what a judgement tells
-abbrev pub JudgeTold : Way → Step → StepNumbers → Outside → Sights → Outside → Sights → Result Bool Stop → Type 0
+abbrev pub JudgeTold : JudgingMode → Step → StepNumbers → Outside → Sights → Outside → Sights → Result Bool FilesStop → Type 0
 JudgeTold way step numbers old s new t result = BothTold
     (λ before after. (u : Update) (events : List ChildEvent) (first : List LogLine) (reads : List Read)
     (members : List (List ℕ × Value)) → JudgesSo u way → Distinguishes u after.past
@@ -81,7 +81,7 @@ JudgeTold way step numbers old s new t result = BothTold
     × OthersStayNoted u events step before.now s.journal after.now t.journal) old new after t result) old.disk new.disk
 
 -- what giving a fresh step its record tells
-abbrev pub MigrateTold : Step → StepNumbers → Outside → Sights → Outside → Sights → Result (Unit {0}) Stop → Type 0
+abbrev pub MigrateTold : Step → StepNumbers → Outside → Sights → Outside → Sights → Result (Unit {0}) FilesStop → Type 0
 MigrateTold step numbers old s new t result = BothTold (λ before after. (u : Update) (events : List ChildEvent)
     (first : List LogLine) (reads : List Read) (members : List (List ℕ × Value)) → Distinguishes u after.past
     → IsToMigrate u events step members → AreNumbersOf step members s.facts numbers

@@ -11,11 +11,11 @@ use Rattle.b2_plan.specs.Plans.{step_at}
 use Rattle.b2_sched.specs.NumberSets.{Has}
 use Rattle.b2_sched.specs.Schedules.{Schedule, state_of, IsUnjudged, IsStale, IsRunning, IsSettled, IsFailed, IsNeeded, running}
 use Rattle.b2_runs.specs.Events.{is_start, is_done}
-use Rattle.b2_sched.specs.Calls.{with_stale, Settles}
+use Rattle.b2_sched.specs.SchedulerCalls.{with_stale, Settles}
 use Rattle.b2_sched.specs.Keeping.{is_unjudged}
 use Rattle.b2_facts.specs.declared.file_facts.FileFacts.{FileFacts}
 use Rattle.b2_facts.specs.Facts.{Knowledge, IsNumber, file_at}
-use Rattle.b2_facts.specs.declared.stop.Stop.{Stop}
+use Rattle.b2_facts.specs.declared.stop.FilesStop.{FilesStop}
 use Rattle.b2_facts.specs.Growth.{Learns, IsOutside}
 use Rattle.b2_facts.specs.Stops.{StopTold}
 use Rattle.b2_reach.specs.declared.sights.Sights.{Sights}
@@ -116,7 +116,7 @@ IsJudged false number numbers before after = IsJudgedStale number numbers before
 -- Files were looked at: nothing changed on the host but the log's file, the reads and the count of faults, which tells
 -- whether the host failed. More is known, of these files alone.
 pub record LooksAtFiles {T : Type 0} (steps : List Step) (roots : List (List ℕ)) (P : ℕ → Type 0) (s : Sights)
-    (x : Outside) (t : Sights) (y : Outside) (result : Result T Stop) : Type 0 where
+    (x : Outside) (t : Sights) (y : Outside) (result : Result T FilesStop) : Type 0 where
   pub only_log : ChangesOnlyLog x y
   pub faults : StopTold x y result
   pub learns : Learns steps roots P s.facts t.facts

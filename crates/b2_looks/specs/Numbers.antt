@@ -10,19 +10,19 @@ use Rattle.b2_facts.specs.declared.file_facts.FileFacts.{FileFacts}
 use Rattle.b2_facts.specs.Facts.{Knowledge, path_at, file_at}
 use Rattle.b2_verdicts.specs.Made.{AreRising}
 use Rattle.b2_verdicts.specs.declared.step_numbers.StepNumbers.{StepNumbers}
-use Rattle.b2_looks.specs.declared.step_files.Named.{Named}
+use Rattle.b2_looks.specs.declared.step_files.NumberedPath.{NumberedPath}
 
 -- ---- byte order of path
 
-abbrev pub number_in : Named → ℕ
+abbrev pub number_in : NumberedPath → ℕ
 number_in one = one.number
 
 -- the file with the number has the path
-abbrev pub HasPath : Knowledge → Named → Type 0
+abbrev pub HasPath : Knowledge → NumberedPath → Type 0
 HasPath f one = path_at f one.number ≡ Some one.path.now
 
 -- the one path stands before the other in byte order
-abbrev pub is_before : Named → Named → Bool
+abbrev pub is_before : NumberedPath → NumberedPath → Bool
 is_before one other = is_lt (slice_cmp nat_cmp one.path.now other.path.now)
 
 -- ---- what is told of members

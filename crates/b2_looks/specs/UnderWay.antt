@@ -24,8 +24,8 @@ use Rattle.b2_runs.specs.Soundness.{Distinguishes, IsSound, IsLoose}
 use Rattle.b2_runs.specs.FileReads.{IsTooBig, ReadsOnce, ReadsLeaveLines, HaveLines}
 use Rattle.b2_runs.specs.LogCourses.{BeginsWith, IsLogAfter, log_file, IsLogCut}
 use Rattle.b2_sched.specs.Schedules.{IsStale, IsRunning, IsSettled}
-use Rattle.b2_facts.specs.declared.stop.Stop.{Stop}
-use Rattle.b2_facts.specs.declared.stop.Stop.TheVariants as stops
+use Rattle.b2_facts.specs.declared.stop.FilesStop.{FilesStop}
+use Rattle.b2_facts.specs.declared.stop.FilesStop.TheVariants as stops
 use Rattle.b2_facts.specs.declared.file_facts.FileFacts.{FileFacts}
 use Rattle.b2_facts.specs.Facts.{Knowledge, IsBlank, path_at, file_at}
 use Rattle.b2_journal.specs.Notes.{HasLines}
@@ -87,7 +87,7 @@ pub record AreTrueLooks (u : Update) (events : List ChildEvent) (disk : Disk) (s
       → IsClosure u.build (on_settled u events) step members → IsNotedStep u disk.now s.journal step members
 
 -- a file that is too big is one
-abbrev pub IsStopOf : Update → List ChildEvent → Disk → Knowledge → Stop → Type 0
+abbrev pub IsStopOf : Update → List ChildEvent → Disk → Knowledge → FilesStop → Type 0
 IsStopOf u events disk f stops.Host = ⊤
 IsStopOf u events disk f stops.OutOfMemory = ⊤
 IsStopOf u events disk f (stops.TooBig number size) = (path : List ℕ) × (path_at f number ≡ Some path)
@@ -96,7 +96,7 @@ IsStopOf u events disk f (stops.TooBig number size) = (path : List ℕ) × (path
 -- What holds where work on files stopped: the disk is sound, the log's file is one that an update may leave that was
 -- cut off, and each read was called for and has left its line before the next.
 pub record IsHalted (u : Update) (events : List ChildEvent) (reads : List Read) (disk : Disk) (f : Knowledge)
-    (stop : Stop) : Type 0 where
+    (stop : FilesStop) : Type 0 where
   pub sound : IsSound u events disk
   pub cut : IsLogCut u events disk.now
   pub once : ReadsOnce u events disk.past reads
@@ -114,7 +114,7 @@ pub record IsUpdateBy (plan : Plan) (l : Looks) (u : Update) : Type 0 where
 
 -- where an update is under way, it is so after a call, with more reads, or it has stopped
 pub record GoesOn {T : Type 0} (u : Update) (events : List ChildEvent) (first : List LogLine) (reads : List Read)
-    (old : Outside) (new : Outside) (disk : Disk) (l : Looks) (s : Sights) (result : Result T Stop) : Type 0 where
+    (old : Outside) (new : Outside) (disk : Disk) (l : Looks) (s : Sights) (result : Result T FilesStop) : Type 0 where
   pub more : List Read
   pub adds : AddsReads more old.reads new.reads
   pub after : MatchResult result
@@ -122,7 +122,7 @@ pub record GoesOn {T : Type 0} (u : Update) (events : List ChildEvent) (first : 
       (λ stop. IsHalted u events (reads ++ more) disk s.facts stop)
 
 -- what calls tell that look at files and note lines, over a host whose files are visible
-abbrev pub LookTold : {T : Type 0} → Plan → Outside → Looks → Sights → Outside → Looks → Sights → Result T Stop → Type 0
+abbrev pub LookTold : {T : Type 0} → Plan → Outside → Looks → Sights → Outside → Looks → Sights → Result T FilesStop → Type 0
 LookTold plan old l s new k t result = BothTold (λ before after. (u : Update) (events : List ChildEvent)
     (first : List LogLine) (reads : List Read) → IsUpdateBy plan l u → Distinguishes u after.past → Follows events l
     → IsUnderWay u events first reads before s → AreTrueLooks u events before s l

@@ -13,7 +13,7 @@ ghost use Rattle.b2_board.specs.Boards.{IsBoard, IsOver, members_of};
 ghost use Rattle.b2_verdicts.specs.Sights.{AreNumbers, AllAsked};
 ghost use Rattle.b2_verdicts.specs.Made.{AreRising};
 ghost use Rattle.b2_verdicts.specs.Digested.{AreFound};
-ghost use Rattle.b2_verdicts.specs.Calls.{IsOfStep};
+ghost use Rattle.b2_verdicts.specs.VerdictCalls.{IsOfStep};
 ghost use Rattle.b2_looks.specs.Looks.{AreLooks, LooksOn, Follows, IsOfUnstarted, IsJudged, LooksAtFiles, looks_ahead};
 ghost use Rattle.b2_looks.specs.UnderWay.{LookTold};
 ghost use Rattle.b2_looks.specs.Judging.{JudgeTold, MigrateTold};
@@ -22,22 +22,22 @@ use crate::step_files::step_numbers;
 use b2_base::fault::OutOfMemory;
 use b2_board::board::Board;
 use b2_board::steps::step_of;
-use b2_facts::stop::Stop;
+use b2_facts::stop::FilesStop;
 use b2_host::files::Files;
 use b2_log::line::LogLine;
 use b2_plan::plan::Plan;
 use b2_plan::step::Step;
 use b2_reach::sights::Sights;
+use b2_verdicts::judging_mode::JudgingMode;
 use b2_verdicts::record::{find_inputs, needs_migration, record_of};
 use b2_verdicts::step_numbers::StepNumbers;
 use b2_verdicts::verdict::verdict;
-use b2_verdicts::way::Way;
 use std::alloc::Global;
 
 /// What an update knows of its steps: the board, the files of those that were judged stale, and which are done.
 pub struct Looks {
     /// How steps are judged.
-    pub way: Way,
+    pub way: JudgingMode,
     /// The schedule, and the work on each step.
     pub board: Board,
     /// Of each step that was judged stale, by its number, its files.
@@ -69,7 +69,7 @@ fn migrate<F: Files>(
     numbers: &StepNumbers,
     sights: &mut Sights,
     files: &mut F,
-) -> Result<(), Stop>
+) -> Result<(), FilesStop>
     requires outs { AreNumbers sights.old.facts numbers.now.outs }
     requires ins { AreNumbers sights.old.facts numbers.now.ins }
     requires some_out { 0 < length numbers.now.outs }
@@ -99,12 +99,12 @@ fn migrate<F: Files>(
 /// judging is by digests. What the record of a stale one will have of its members is found, before it starts and they may change.
 fn is_fresh<F: Files>(
     alloc: Global,
-    way: Way,
+    way: JudgingMode,
     step: &Step,
     numbers: &StepNumbers,
     sights: &mut Sights,
     files: &mut F,
-) -> Result<bool, Stop>
+) -> Result<bool, FilesStop>
     requires outs { AreNumbers sights.old.facts numbers.now.outs }
     requires ins { AreNumbers sights.old.facts numbers.now.ins }
     requires some_out { 0 < length numbers.now.outs }
@@ -164,7 +164,12 @@ fn none_ready(alloc: Global, size: usize) -> Result<Vec<Option<StepNumbers>>, Ou
 impl Looks {
     /// What is known of the steps of a plan before anything is done: none is judged. At most `jobs` steps run at a
     /// time.
-    pub fn new(alloc: Global, plan: &Plan, way: Way, jobs: u32) -> Result<Looks, OutOfMemory>
+    pub fn new(
+        alloc: Global,
+        plan: &Plan,
+        way: JudgingMode,
+        jobs: u32,
+    ) -> Result<Looks, OutOfMemory>
         requires few { length plan.now.steps ≤ 65536 }
         ensures looks { IfOk result (AreLooks plan.now 0 no_facts) }
         ensures follows { IfOk result (Follows []) }
@@ -209,7 +214,7 @@ impl Looks {
         sights: &mut Sights,
         files: &mut F,
         number: u32,
-    ) -> Result<(), Stop>
+    ) -> Result<(), FilesStop>
         requires apart { Apart plan.now.steps plan.now.roots }
         requires about { IsAbout plan.now.steps plan.now.roots sights.old.facts }
         requires looks { AreLooks plan.now number sights.old.facts self.old }
@@ -244,7 +249,7 @@ impl Looks {
         sights: &mut Sights,
         files: &mut F,
         number: u32,
-    ) -> Result<(), Stop>
+    ) -> Result<(), FilesStop>
         requires apart { Apart plan.now.steps plan.now.roots }
         requires about { IsAbout plan.now.steps plan.now.roots sights.old.facts }
         requires looks { AreLooks plan.now number sights.old.facts self.old }
@@ -275,7 +280,7 @@ impl Looks {
         plan: &Plan,
         sights: &mut Sights,
         files: &mut F,
-    ) -> Result<(), Stop>
+    ) -> Result<(), FilesStop>
         requires apart { Apart plan.now.steps plan.now.roots }
         requires about { IsAbout plan.now.steps plan.now.roots sights.old.facts }
         requires looks { AreLooks plan.now 0 sights.old.facts self.old }
@@ -303,7 +308,7 @@ impl Looks {
         plan: &Plan,
         sights: &mut Sights,
         files: &mut F,
-    ) -> Result<(), Stop>
+    ) -> Result<(), FilesStop>
         requires apart { Apart plan.now.steps plan.now.roots }
         requires about { IsAbout plan.now.steps plan.now.roots sights.old.facts }
         requires looks { AreLooks plan.now 0 sights.old.facts self.old }

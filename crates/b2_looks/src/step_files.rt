@@ -67,7 +67,7 @@ fn is_of_done(ran: &[bool], facts: &Facts, number: u32) -> bool
 
 /// The number of a file, with its path.
 #[derive(Drop)]
-struct Named<'a> {
+struct NumberedPath<'a> {
     path: &'a Path,
     number: u32,
 }
@@ -77,14 +77,14 @@ fn with_paths<'a>(
     alloc: Global,
     facts: &'a Facts,
     members: &[u32],
-) -> Result<Vec<Named<'a>>, OutOfMemory>
+) -> Result<Vec<NumberedPath<'a>>, OutOfMemory>
     requires { (n : ℕ) → Contains members.now n → IsNumber facts.now n }
     ensures numbers { IfOk result (λ named. map number_in named.items ≡ members.now) }
     ensures paths { IfOk result (λ named. All (HasPath facts.now) named.items) }
 {
     let mut named = Vec::new(alloc);
     for number in members {
-        named.push(Named {
+        named.push(NumberedPath {
             path: facts.path(*number),
             number: *number,
         })?;
@@ -97,7 +97,7 @@ fn by_path<'a>(
     alloc: Global,
     facts: &'a Facts,
     members: &[u32],
-) -> Result<Vec<Named<'a>>, OutOfMemory>
+) -> Result<Vec<NumberedPath<'a>>, OutOfMemory>
     requires { (n : ℕ) → Contains members.now n → IsNumber facts.now n }
     ensures numbers { IfOk result (λ named. IsPermutation members.now (map number_in named.items)) }
     ensures paths { IfOk result (λ named. All (HasPath facts.now) named.items) }
@@ -109,7 +109,7 @@ fn by_path<'a>(
 }
 
 /// The numbers alone, in their order.
-fn numbers_in(alloc: Global, named: &[Named]) -> Result<Vec<u32>, OutOfMemory>
+fn numbers_in(alloc: Global, named: &[NumberedPath]) -> Result<Vec<u32>, OutOfMemory>
     ensures { IfOk result (λ numbers. numbers.items ≡ map number_in named.now) }
 {
     let mut numbers = Vec::new(alloc);

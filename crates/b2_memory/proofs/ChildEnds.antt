@@ -7,11 +7,11 @@ use Rattle.std.proofs.lemmas.Grind.{flat_map-append}
 use Rattle.std.proofs.lemmas.Option.{slice_get-get_or}
 use Rattle.b2_host.specs.Disks.{Past, Disk}
 use Rattle.b2_host.specs.ChildProcesses.{Given, Child, IsWritten, ChangesOnlyOutputs, HasMade, BothTold}
-use Rattle.b2_files.specs.declared.entry.Entry.{Entry}
+use Rattle.b2_files.specs.declared.file_bytes.FileBytes.{FileBytes}
 use Rattle.b2_files.specs.Writes.{all_written}
 use Rattle.b2_files.specs.Stores.{PlaceMap, is_known, all_known}
 use Rattle.b2_files.proofs.KnownPathsStayKnown.{both, and_true}
-use Rattle.b2_memory.specs.declared.running.Running.{Running}
+use Rattle.b2_memory.specs.declared.running_child.RunningChild.{RunningChild}
 use Rattle.b2_memory.specs.Results.{made_of}
 use Rattle.b2_memory.specs.ChildWrites.{writes_of}
 use Rattle.b2_memory.specs.Families.{child_with}
@@ -29,34 +29,34 @@ none_is k y e = cc
 
 -- ---- what is promised is known
 
-known_both : (m : PlaceMap) (xs ys : List Entry) → all_known m (xs ++ ys) ≡ (all_known m xs && all_known m ys)
+known_both : (m : PlaceMap) (xs ys : List FileBytes) → all_known m (xs ++ ys) ≡ (all_known m xs && all_known m ys)
 known_both m xs ys = list_all-append (λ x. is_known m x.path) xs ys
 
 -- of one child more
-pub promised_push : (m : PlaceMap) (rs : List Running) (r : Running) → all_known m (promised rs) ≡ true → all_known m r.entries.items ≡ true → all_known m (promised (rs ++ r ∷ [])) ≡ true
+pub promised_push : (m : PlaceMap) (rs : List RunningChild) (r : RunningChild) → all_known m (promised rs) ≡ true → all_known m r.entries.items ≡ true → all_known m (promised (rs ++ r ∷ [])) ≡ true
 promised_push m rs r h k =
-    ap (all_known m) (flat_map-append (λ (x : Running). x.entries.items) rs (r ∷ []) ∙ ap (λ ys. promised rs ++ ys) (append-nil r.entries.items))
+    ap (all_known m) (flat_map-append (λ (x : RunningChild). x.entries.items) rs (r ∷ []) ∙ ap (λ ys. promised rs ++ ys) (append-nil r.entries.items))
     ∙ known_both m (promised rs) r.entries.items
     ∙ and_true (all_known m (promised rs)) (all_known m r.entries.items) h k
 
 -- of one child and the others
-pub known_take : (m : PlaceMap) (rs : List Running) (k : ℕ) (r : Running) → slice_get rs k ≡ Some r → all_known m (promised rs) ≡ true → (all_known m r.entries.items ≡ true) × (all_known m (promised (remove rs k)) ≡ true)
+pub known_take : (m : PlaceMap) (rs : List RunningChild) (k : ℕ) (r : RunningChild) → slice_get rs k ≡ Some r → all_known m (promised rs) ≡ true → (all_known m r.entries.items ≡ true) × (all_known m (promised (remove rs k)) ≡ true)
 known_take m [] k r e h = absurd (none_is k r e)
 known_take m (x ∷ rs) zero r e h =
     let same : x ≡ r = first_is x rs r e in
     let parts = both (all_known m x.entries.items) (all_known m (promised rs)) (sym (known_both m x.entries.items (promised rs)) ∙ h) in
-    (ap (λ (y : Running). all_known m y.entries.items) (sym same) ∙ parts.0, parts.1)
+    (ap (λ (y : RunningChild). all_known m y.entries.items) (sym same) ∙ parts.0, parts.1)
 known_take m (x ∷ rs) (suc k) r e h =
     let parts = both (all_known m x.entries.items) (all_known m (promised rs)) (sym (known_both m x.entries.items (promised rs)) ∙ h) in
     let more = known_take m rs k r e parts.1 in
     (more.0, known_both m x.entries.items (promised (remove rs k)) ∙ and_true (all_known m x.entries.items) (all_known m (promised (remove rs k))) parts.0 more.1)
 
 -- how much is promised without one child
-pub promised_take : (rs : List Running) (k : ℕ) (r : Running) → slice_get rs k ≡ Some r → length (promised rs) ≡ length (promised (remove rs k)) + length r.entries.items
+pub promised_take : (rs : List RunningChild) (k : ℕ) (r : RunningChild) → slice_get rs k ≡ Some r → length (promised rs) ≡ length (promised (remove rs k)) + length r.entries.items
 promised_take [] k r e = absurd (none_is k r e)
 promised_take (x ∷ rs) zero r e =
     let same : x ≡ r = first_is x rs r e in
-    let own : length x.entries.items ≡ length r.entries.items = ap (λ (y : Running). length y.entries.items) same in
+    let own : length x.entries.items ≡ length r.entries.items = ap (λ (y : RunningChild). length y.entries.items) same in
     let sum : length (x.entries.items ++ promised rs) ≡ length x.entries.items + length (promised rs) = length-append x.entries.items (promised rs) in
     omega (arith, own, sum)
 promised_take (x ∷ rs) (suc k) r e =

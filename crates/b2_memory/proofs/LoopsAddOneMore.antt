@@ -14,7 +14,7 @@ use Rattle.std.proofs.lemmas.List.Sums.{fold-append}
 use Rattle.std.proofs.lemmas.List.Elements.{filter_map-append}
 use Rattle.std.proofs.lemmas.Grind.{flat_map-append}
 use Rattle.b2_base.specs.Segments.{texts}
-use Rattle.b2_files.specs.declared.entry.Entry.{Entry}
+use Rattle.b2_files.specs.declared.file_bytes.FileBytes.{FileBytes}
 use Rattle.b2_host.specs.Disks.{Folder}
 use Rattle.b2_host.specs.ChildProcesses.{read_at, read_all}
 use Rattle.b2_files.specs.Stores.{write_of}
@@ -35,7 +35,7 @@ read_more folder ins i d h =
 -- ---- the input with a name
 
 -- one input more
-named_more : (held : List Entry) (i : ℕ) (d : Entry) (name : List ℕ) → i < length held → bytes_named (map write_of (take (i + 1) held)) name ≡ cond (bytes_eq (get_or held i d).path name) (get_or held i d).bytes.value.items (bytes_named (map write_of (take i held)) name)
+named_more : (held : List FileBytes) (i : ℕ) (d : FileBytes) (name : List ℕ) → i < length held → bytes_named (map write_of (take (i + 1) held)) name ≡ cond (bytes_eq (get_or held i d).path name) (get_or held i d).bytes.value.items (bytes_named (map write_of (take i held)) name)
 named_more held i d name h =
     let pick : List ℕ → List ℕ × List ℕ → List ℕ = λ found input. cond (bytes_eq input.0 name) input.1 found in
     ap (λ ws. bytes_named ws name) (map_more write_of held i d h) ∙ fold-append pick [] (map write_of (take i held)) (write_of (get_or held i d) ∷ [])
@@ -48,12 +48,12 @@ found_more m n bs cs key value u e v name =
     ∙ ap (λ k. cond (bytes_eq k name) value.now (bytes_found m name)) e
     ∙ ap (λ c. cond (bytes_eq bs name) c (bytes_found m name)) v
 
-pub by_name_more : (held : List Entry) (i : ℕ) (x : Entry) (m n : Found) (key value : Bor (List ℕ)) → i < length held → x ≡ get_or held i x → Updates ref_cmp m n key (Some value) → key.now ≡ x.path → value.now ≡ x.bytes.value.items
+pub by_name_more : (held : List FileBytes) (i : ℕ) (x : FileBytes) (m n : Found) (key value : Bor (List ℕ)) → i < length held → x ≡ get_or held i x → Updates ref_cmp m n key (Some value) → key.now ≡ x.path → value.now ≡ x.bytes.value.items
     → ((name : List ℕ) → bytes_found m name ≡ bytes_named (map write_of (take i held)) name) → (name : List ℕ) → bytes_found n name ≡ bytes_named (map write_of (take (i + 1) held)) name
 by_name_more held i x m n key value low is u e v so_far name =
     found_more m n x.path x.bytes.value.items key value u e v name
     ∙ ap (cond (bytes_eq x.path name) x.bytes.value.items) (so_far name)
-    ∙ ap (λ (y : Entry). cond (bytes_eq y.path name) y.bytes.value.items (bytes_named (map write_of (take i held)) name)) is
+    ∙ ap (λ (y : FileBytes). cond (bytes_eq y.path name) y.bytes.value.items (bytes_named (map write_of (take i held)) name)) is
     ∙ sym (named_more held i x name low)
 
 -- ---- joining

@@ -6,7 +6,7 @@ use Rattle.std.specs.Cmp.Lexicographic.{slice_cmp, nat_list_cmp_total}
 use Rattle.std.specs.List.Sorted.{IsSortedBy, IsStableBy}
 use Rattle.std.specs.Borrow.{Bor}
 use Rattle.b2_base.proofs.StableSortIsInsertionSort.{insert, sorted, sorted_is}
-use Rattle.b2_files.specs.declared.entry.Entry.{Entry}
+use Rattle.b2_files.specs.declared.file_bytes.FileBytes.{FileBytes}
 use Rattle.b2_files.specs.Stores.{write_of, input_of}
 use Rattle.b2_memory.specs.Results.{put_by_path, by_path}
 
@@ -35,9 +35,9 @@ module _ {X : Type 0} (input : X → List ℕ × List ℕ) where
   by_path_from_sort xs ys up stable = ap (map input) (sorted_is below_ranks xs ys up stable) ∙ map-sorted xs
 
 -- the inputs that were handed over, as what references point to, once a stable sort by path has moved the references
-pub held_in_order : (held : List Entry) (xs ys : List (Bor Entry)) → map (λ entry. entry.now) xs ≡ held → IsSortedBy (below input_of) ys → IsStableBy (below input_of) xs ys → map input_of ys ≡ by_path (map write_of held)
+pub held_in_order : (held : List FileBytes) (xs ys : List (Bor FileBytes)) → map (λ entry. entry.now) xs ≡ held → IsSortedBy (below input_of) ys → IsStableBy (below input_of) xs ys → map input_of ys ≡ by_path (map write_of held)
 held_in_order held xs ys is up stable = by_path_from_sort input_of xs ys up stable ∙ ap by_path (parts xs ∙ ap (map write_of) is)
   where
-    parts : (xs : List (Bor Entry)) → map input_of xs ≡ map write_of (map (λ entry. entry.now) xs)
+    parts : (xs : List (Bor FileBytes)) → map input_of xs ≡ map write_of (map (λ entry. entry.now) xs)
     parts [] = refl
     parts (x ∷ xs) = ap (λ l. input_of x ∷ l) (parts xs)

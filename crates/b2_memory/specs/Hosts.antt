@@ -12,14 +12,14 @@ use Rattle.b2_memory.specs.Listings.{listed_of, risks_told}
 use Rattle.b2_memory.specs.Memories.{Memory}
 use Rattle.b2_memory.specs.declared.child_table.ChildTable.{ChildTable}
 use Rattle.b2_memory.specs.declared.memory.MemoryHost.{MemoryHost}
-use Rattle.b2_memory.specs.declared.running.Running.{Running}
+use Rattle.b2_memory.specs.declared.running_child.RunningChild.{RunningChild}
 
 -- children that run, by what they were given
-abbrev pub running_children : List Running → List Child
+abbrev pub running_children : List RunningChild → List Child
 running_children running = map (λ child. child_with (given_of child.job.value)) running
 
 -- whether each child is to end well
-abbrev pub ends_well_of : List Running → List Bool
+abbrev pub ends_well_of : List RunningChild → List Bool
 ends_well_of running = map (λ child. child.well) running
 
 -- the children of a table

@@ -2,8 +2,8 @@
 ghost use Rattle.std.specs.Prelude.{◌≡◌, ◌+◌, ◌≤◌, ◌<◌, ◌^◌, [], ◌∷◌, ◌++◌, length, remove, slice_get, Some, IfOk, OnOk, vec_len, vec_capacity};
 ghost use Rattle.b2_memory.specs.PendingWrites.{promised};
 
-use crate::job::Job;
-use crate::running::Running;
+use crate::memory_job::MemoryJob;
+use crate::running_child::RunningChild;
 use b2_base::fault::OutOfMemory;
 use b2_host::children::ChildEvent;
 use std::alloc::Global;
@@ -12,8 +12,8 @@ use std::rc::Rc;
 /// What each start gave, the children that run, and what happened to them. `pending` counts what the children are yet
 /// to write.
 pub struct ChildTable {
-    pub given: Vec<Rc<Job>>,
-    pub running: Vec<Running>,
+    pub given: Vec<Rc<MemoryJob>>,
+    pub running: Vec<RunningChild>,
     pub events: Vec<ChildEvent>,
     pub pending: usize,
     ghost owed: { pending ≡ length (promised running.items) },
@@ -78,7 +78,7 @@ impl ChildTable {
     }
 
     /// One more child runs. The room for it was taken.
-    pub fn add(&mut self, child: Running, job: Rc<Job>)
+    pub fn add(&mut self, child: RunningChild, job: Rc<MemoryJob>)
         requires given_room { vec_len self.old.given < vec_capacity self.old.given }
         requires running_room { vec_len self.old.running < vec_capacity self.old.running }
         requires event_room { vec_len self.old.events + vec_len self.old.running + 2 ≤ vec_capacity self.old.events }
@@ -96,7 +96,7 @@ impl ChildTable {
     }
 
     /// The child at a place runs no more.
-    pub fn take(&mut self, place: usize) -> Running
+    pub fn take(&mut self, place: usize) -> RunningChild
         requires { place < vec_len self.old.running }
         ensures child { slice_get self.old.running.items place ≡ Some result }
         ensures running { self.new.running.items ≡ remove self.old.running.items place }

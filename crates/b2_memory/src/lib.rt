@@ -9,11 +9,11 @@
 #![tactic(auto)]
 
 mod child_table;
-pub mod job;
 mod made;
 pub mod memory;
+pub mod memory_job;
 pub mod memory_sink;
 mod read_notes;
 pub mod result_laws;
-pub mod running;
+pub mod running_child;
 mod script;

@@ -10,7 +10,7 @@ use b2_base::fault::OutOfMemory;
 use b2_base::hexadecimal::hexadecimal;
 use b2_base::path::Path;
 use b2_base::white::is_white;
-use b2_files::entry::Entry;
+use b2_files::file_bytes::FileBytes;
 use sha2::{Digest, Sha256};
 use std::alloc::Global;
 use std::collections::BTreeMap;
@@ -28,7 +28,7 @@ fn words(alloc: Global, text: &str) -> Result<Vec<&[u8]>, OutOfMemory>
 }
 
 /// The bytes of the inputs by their names.
-fn by_name(alloc: Global, held: &[Entry]) -> Result<BTreeMap<&[u8], &[u8]>, OutOfMemory>
+fn by_name(alloc: Global, held: &[FileBytes]) -> Result<BTreeMap<&[u8], &[u8]>, OutOfMemory>
     ensures { IfOk result (λ found. (name : List ℕ) → bytes_found found name ≡ bytes_named (map write_of held.now) name) }
 {
     let mut found = BTreeMap::new(alloc);
@@ -50,7 +50,7 @@ fn named<'a>(found: &BTreeMap<&'a [u8], &'a [u8]>, name: &'a [u8]) -> &'a [u8]
 }
 
 /// The inputs that are named before the first `>`, joined.
-fn join(alloc: Global, held: &[Entry], names: &[&[u8]]) -> Result<Vec<u8>, OutOfMemory>
+fn join(alloc: Global, held: &[FileBytes], names: &[&[u8]]) -> Result<Vec<u8>, OutOfMemory>
     ensures { IfOk result (λ bytes. bytes.items ≡ joined (map write_of held.now) (texts names.now)) }
 {
     let found = by_name(alloc, held)?;
@@ -65,7 +65,7 @@ fn join(alloc: Global, held: &[Entry], names: &[&[u8]]) -> Result<Vec<u8>, OutOf
 }
 
 /// The digest of a text and its inputs as a line of hexadecimal digits.
-fn digest(alloc: Global, text: &str, held: &[Entry], out: &Path) -> Result<Vec<u8>, OutOfMemory>
+fn digest(alloc: Global, text: &str, held: &[FileBytes], out: &Path) -> Result<Vec<u8>, OutOfMemory>
     ensures { IfOk result (λ bytes. bytes.items ≡ digest_line text.now (map write_of held.now) out.now) }
 {
     let whole = whole(alloc, text, held, out)?;
@@ -77,15 +77,15 @@ fn digest(alloc: Global, text: &str, held: &[Entry], out: &Path) -> Result<Vec<u
 }
 
 /// The inputs in byte order of their paths.
-fn sorted<'a>(alloc: Global, held: &'a [Entry]) -> Result<Vec<&'a Entry>, OutOfMemory>
+fn sorted<'a>(alloc: Global, held: &'a [FileBytes]) -> Result<Vec<&'a FileBytes>, OutOfMemory>
     ensures { IfOk result (λ inputs. map input_of inputs.items ≡ by_path (map write_of held.now)) }
 {
-    let mut inputs: Vec<&Entry> = held.iter().collect(alloc)?;
+    let mut inputs: Vec<&FileBytes> = held.iter().collect(alloc)?;
     inputs.sort_by(|one, other| one.path.cmp(&other.path))?;
     Ok(inputs)
 }
 
-fn add_inputs(alloc: Global, bytes: &mut Vec<u8>, inputs: &[&Entry]) -> Result<(), OutOfMemory>
+fn add_inputs(alloc: Global, bytes: &mut Vec<u8>, inputs: &[&FileBytes]) -> Result<(), OutOfMemory>
     ensures { OnOk result (bytes.new.items ≡ bytes.old.items ++ flat_map input_text (map input_of inputs.now)) }
 {
     for input in inputs {
@@ -95,7 +95,7 @@ fn add_inputs(alloc: Global, bytes: &mut Vec<u8>, inputs: &[&Entry]) -> Result<(
 }
 
 /// What is digested: the output's path and the text, each as a line, and the inputs in byte order of their paths.
-fn whole(alloc: Global, text: &str, held: &[Entry], out: &Path) -> Result<Vec<u8>, OutOfMemory>
+fn whole(alloc: Global, text: &str, held: &[FileBytes], out: &Path) -> Result<Vec<u8>, OutOfMemory>
     ensures { IfOk result (λ bytes. bytes.items ≡ whole_text text.now (map write_of held.now) out.now) }
 {
     let inputs = sorted(alloc, held)?;
@@ -107,7 +107,7 @@ fn whole(alloc: Global, text: &str, held: &[Entry], out: &Path) -> Result<Vec<u8
     Ok(bytes)
 }
 
-fn add_input(alloc: Global, bytes: &mut Vec<u8>, input: &Entry) -> Result<(), OutOfMemory>
+fn add_input(alloc: Global, bytes: &mut Vec<u8>, input: &FileBytes) -> Result<(), OutOfMemory>
     ensures { OnOk result (bytes.new.items ≡ bytes.old.items ++ input_text (write_of input.now)) }
 {
     let path = input.path.as_str();
@@ -122,7 +122,7 @@ fn make_by(
     alloc: Global,
     words: &[&[u8]],
     text: &str,
-    held: &[Entry],
+    held: &[FileBytes],
     out: &Path,
 ) -> Result<Vec<u8>, OutOfMemory>
     ensures { IfOk result (λ bytes. bytes.items ≡ made_by (texts words.now) text.now (map write_of held.now) out.now) }
@@ -140,7 +140,12 @@ fn make_by(
 
 /// What a child makes at an output.
 #[tactic(auto, unfolding(crate::specs::Results::made_of))]
-pub fn make(alloc: Global, text: &str, held: &[Entry], out: &Path) -> Result<Vec<u8>, OutOfMemory>
+pub fn make(
+    alloc: Global,
+    text: &str,
+    held: &[FileBytes],
+    out: &Path,
+) -> Result<Vec<u8>, OutOfMemory>
     ensures { IfOk result (λ bytes. bytes.items ≡ made_of text.now (map write_of held.now) out.now) }
 {
     let words = words(alloc, text)?;

@@ -10,16 +10,16 @@ ghost use Rattle.b2_memory.specs.Scripts.{with_picks, left_of};
 ghost use Rattle.b2_memory.specs.PendingWrites.{promised};
 
 use crate::child_table::ChildTable;
-use crate::job::Job;
+use crate::memory_job::MemoryJob;
 use crate::read_notes::ReadNotes;
-use crate::running::Running;
+use crate::running_child::RunningChild;
 pub use crate::script::CallKind;
 use crate::script::{Script, raise};
 use b2_base::fault::OutOfMemory;
 use b2_base::path::Path;
 use b2_base::text_list::TextList;
 use b2_files::contents::Content;
-use b2_files::entry::Entry;
+use b2_files::file_bytes::FileBytes;
 use b2_files::store::Store;
 use b2_files::version::Version;
 use b2_host::children::{ChildEvent, Children};
@@ -179,7 +179,7 @@ impl MemoryHost {
     }
 
     /// The children that run, in order of start, each with how it is to end.
-    pub fn running(&self) -> &[Running]
+    pub fn running(&self) -> &[RunningChild]
         ensures children { running_children result.now ≡ (memory_of self.now).outside.children.running }
         ensures ends_well { ends_well_of result.now ≡ (memory_of self.now).ends_well }
     {
@@ -187,7 +187,7 @@ impl MemoryHost {
     }
 
     /// What each start gave its child, in order.
-    pub fn given(&self) -> &[Rc<Job>]
+    pub fn given(&self) -> &[Rc<MemoryJob>]
         ensures { (memory_of self.now).outside.children.given ≡ Some (map (λ job. given_of job.value) result.now) }
     {
         self.child_table.given.as_slice()
@@ -273,7 +273,12 @@ impl MemoryHost {
     }
 
     /// Lets a child run, whose writes are known, once the room for its end is taken.
-    fn admit(&mut self, job: Job, well: bool, entries: Vec<Entry>) -> Result<(), OutOfMemory>
+    fn admit(
+        &mut self,
+        job: MemoryJob,
+        well: bool,
+        entries: Vec<FileBytes>,
+    ) -> Result<(), OutOfMemory>
         requires left { IsLeft job well entries.items }
         requires well { self.old.script.may_end_badly ≡ false → well ≡ true }
         ensures ok { OnOk result (memory_of self.new ≡ with_child (given_of job) well (memory_of self.old)) }
@@ -284,7 +289,8 @@ impl MemoryHost {
         let kept = job.clone()?;
         self.child_table.reserve()?;
         self.store.prepare(entries.as_slice(), pending)?;
-        self.child_table.add(Running { job, well, entries }, kept);
+        self.child_table
+            .add(RunningChild { job, well, entries }, kept);
         self.script.count_start();
         Ok(())
     }
@@ -295,7 +301,7 @@ impl MemoryHost {
         ensures ended { Ended place (memory_of self.old) result.0 result.1 (memory_of self.new) }
         ensures len { vec_len self.new.child_table.running + 1 ≡ vec_len self.old.child_table.running }
     {
-        let Running { job, well, entries } = self.child_table.take(place);
+        let RunningChild { job, well, entries } = self.child_table.take(place);
         self.store.put_all(entries);
         (job.as_ref().step, well)
     }
@@ -404,7 +410,7 @@ impl Children for MemoryHost {
         if self.script.fails(CallKind::Start) {
             return Err(IoFault::Failed);
         }
-        let job = Job::new(self.alloc, step, text, ins, outs, &self.store)?;
+        let job = MemoryJob::new(self.alloc, step, text, ins, outs, &self.store)?;
         let well = !self.script.is_bad();
         let entries = job.writes(self.alloc, well)?;
         self.admit(job, well, entries)?;

@@ -11,7 +11,7 @@ use Rattle.b2_refusals.specs.declared.fault.Fault.{Fault}
 use Rattle.b2_runs.specs.Moments.{Moment}
 use Rattle.b2_runs.specs.UpdateAnswers.{LeavesNone}
 use Rattle.b2_drain.specs.Drains.{Made}
-use Rattle.b2_words.specs.Words.{Word}
+use Rattle.b2_command_line.specs.Words.{Word}
 use Rattle.b2_top.specs.Answered.{CleanTold, HappenedTold, CountsTold}
 use Rattle.b2_top.specs.Explains.{IsTold as IsExplainedTold, IsOfExplain, CauseTold as ExplainCauseTold}
 use Rattle.b2_top.specs.Cleans.{CauseTold as CleanCauseTold}
@@ -19,7 +19,7 @@ use Rattle.b2_top.specs.Endings.{IsUsageOrCutShort, IfRefused}
 use Rattle.b2_top.specs.Modes.{mode_of}
 use Rattle.b2_top.specs.Shows.{IsShown, IsOfLook, CauseTold, CountsTold as LookCounts}
 use Rattle.b2_top.specs.Statuses.{status_of}
-use Rattle.b2_top.specs.Told.{CountsStay, HostFailedFirst, WrittenTold}
+use Rattle.b2_top.specs.BetweenMoments.{CountsStay, HostFailedBeforeReport, WrittenTold}
 use Rattle.b2_top.specs.declared.answer.Answer.{Answer}
 use Rattle.b2_top.specs.declared.answer.Answer.TheVariants as answers
 use Rattle.b2_top.specs.declared.mode.Mode.{Mode}
@@ -27,7 +27,7 @@ use Rattle.b2_top.specs.declared.mode.Mode.TheVariants.{Build, Look, Explain, Cl
 use Rattle.b2_source_laws.specs.AfterCleaning.{LeavesToBuild, NextAfterCleaning}
 use Rattle.b2_program.specs.Called.{IsBuild, IsLook, IsExplanation, IsCleaning, IsDrill, AnswersOver, Promises, EndsWith}
 use Rattle.b2_program.specs.Causes.{IsFailed, IsRefusedFor, IsRefused, IsNoCommand, IsUsage, IsUsageStatus, IsSinkFault, IsDrillDone, IsCleanedFor}
-use Rattle.b2_program.proofs.StatusTellsAnswer.{at_most_six, is_ok, is_failed, is_refused, is_usage}
+use Rattle.b2_program.proofs.StatusTellsAnswer.{status_at_most, is_ok, is_failed, is_refused, is_usage}
 
 -- ---- answers
 
@@ -75,7 +75,7 @@ counts_stay before after answers.HostFault h low = absurd (omega (arith, low))
 counts_stay before after answers.OutOfMemory h low = absurd (omega (arith, low))
 counts_stay before after answers.SinkFault h low = absurd (omega (arith, low))
 
-host_failed : (before after : Moment) (a : Answer) → CountsTold before after a → status_of a ≡ 4 → HostFailedFirst before after
+host_failed : (before after : Moment) (a : Answer) → CountsTold before after a → status_of a ≡ 4 → HostFailedBeforeReport before after
 host_failed before after answers.Ok h e = absurd (omega (arith, e))
 host_failed before after (answers.Failed lists) h e = absurd (omega (arith, e))
 host_failed before after (answers.Refused fault) h e = absurd (omega (arith, e))
@@ -143,7 +143,7 @@ module _ (made : Made) (words : List Word) (before after : Moment) (status : ℕ
   stays idle = of_mode (mode_of words) idle e.promised
 
   pub status_low : status ≤ 6
-  status_low = subst (λ n. n ≤ 6) (sym e.is) (at_most_six a)
+  status_low = subst (λ n. n ≤ 6) (sym e.is) (status_at_most a)
 
   -- ---- by the status
 
@@ -243,7 +243,7 @@ module _ (made : Made) (words : List Word) (before after : Moment) (status : ℕ
     pub counts_told : status ≤ 3 → CountsStay before after
     counts_told low = counts_stay before after a (stays idle).counts (subst (λ n. n ≤ 3) e.is low)
 
-    pub host_fault_told : status ≡ 4 → HostFailedFirst before after
+    pub host_fault_told : status ≡ 4 → HostFailedBeforeReport before after
     host_fault_told four = host_failed before after a (stays idle).counts (sym e.is ∙ four)
 
     pub no_memory_told : status ≡ 5 → after.out.faults ≡ before.out.faults

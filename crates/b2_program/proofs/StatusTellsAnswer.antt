@@ -6,14 +6,14 @@ use Rattle.b2_top.specs.Statuses.{status_of}
 use Rattle.b2_top.specs.declared.answer.Answer.{Answer}
 use Rattle.b2_top.specs.declared.answer.Answer.TheVariants as answers
 
-pub at_most_six : (a : Answer) → status_of a ≤ 6
-at_most_six answers.Ok = omega arith
-at_most_six (answers.Failed lists) = omega arith
-at_most_six (answers.Refused fault) = omega arith
-at_most_six answers.Usage = omega arith
-at_most_six answers.HostFault = omega arith
-at_most_six answers.OutOfMemory = omega arith
-at_most_six answers.SinkFault = omega arith
+pub status_at_most : (a : Answer) → status_of a ≤ 6
+status_at_most answers.Ok = omega arith
+status_at_most (answers.Failed lists) = omega arith
+status_at_most (answers.Refused fault) = omega arith
+status_at_most answers.Usage = omega arith
+status_at_most answers.HostFault = omega arith
+status_at_most answers.OutOfMemory = omega arith
+status_at_most answers.SinkFault = omega arith
 
 pub is_ok : (a : Answer) → status_of a ≡ 0 → a ≡ answers.Ok
 is_ok answers.Ok e = refl

@@ -9,7 +9,7 @@ use Rattle.b2_runs.specs.Moments.{Moment}
 use Rattle.b2_runs.specs.UpdateAnswers.{LeavesNone}
 use Rattle.b2_update.specs.Moments.{moment}
 use Rattle.b2_drain.specs.Drains.{Made}
-use Rattle.b2_words.specs.Words.{Word}
+use Rattle.b2_command_line.specs.Words.{Word}
 use Rattle.b2_drill_call.specs.Asked.{drill_of}
 use Rattle.b2_drill_call.specs.Drilled.{AnswersDrill}
 use Rattle.b2_top.specs.Answered.{IsAnswered}

@@ -16,7 +16,7 @@ use Rattle.b2_drill_call.specs.Asked.{drill_of}
 use Rattle.b2_drill_call.specs.Drilled.{IsSummed}
 use Rattle.b2_memory.specs.Memories.{new_memory}
 use Rattle.b2_update.specs.Moments.{moment}
-use Rattle.b2_words.specs.Words.{Word}
+use Rattle.b2_command_line.specs.Words.{Word}
 use Rattle.b2_top.specs.Answered.{StaysOrWaits}
 use Rattle.b2_top.specs.Asked.{explain_command, explained_words, clean_words}
 use Rattle.b2_top.specs.Explains.{IsTooBigPlan}

@@ -5,7 +5,7 @@ ghost use Rattle.b2_host.specs.OutputLaws.{OutKeeps};
 ghost use Rattle.b2_runs.specs.UpdateAnswers.{LeavesNone};
 ghost use Rattle.b2_update.specs.Moments.{moment};
 ghost use Rattle.b2_top.specs.Answered.{CleanTold};
-ghost use Rattle.b2_top.specs.Told.{CountsStay, HostFailedFirst, WrittenTold};
+ghost use Rattle.b2_top.specs.BetweenMoments.{CountsStay, HostFailedBeforeReport, WrittenTold};
 ghost use Rattle.b2_top.specs.Shows.{IsShown};
 ghost use Rattle.b2_top.specs.Explains.{IsTold as IsExplainedTold};
 ghost use Rattle.b2_host.specs.ChildProcesses.{BothTold};
@@ -85,7 +85,7 @@ pub fn run_program<H: Children, S: Sink>(
     // report of it began. Status 5: no memory was left, and no write failed. Status 6: a write failed.
     ensures counts { result ≤ 3 → CountsStay (moment (H.outside host.old) (S.output out.old))
         (moment (H.outside host.new) (S.output out.new)) }
-    ensures host_fault { result ≡ 4 → HostFailedFirst (moment (H.outside host.old) (S.output out.old))
+    ensures host_fault { result ≡ 4 → HostFailedBeforeReport (moment (H.outside host.old) (S.output out.old))
         (moment (H.outside host.new) (S.output out.new)) }
     ensures no_memory { result ≡ 5 → (S.output out.new).faults ≡ (S.output out.old).faults }
     ensures sink_fault { result ≡ 6 → IsSinkFault (moment (H.outside host.old) (S.output out.old))

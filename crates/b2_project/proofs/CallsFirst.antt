@@ -1,21 +1,21 @@
 -- The calls of a load are those that were recorded first.
 use Rattle.std.proofs.Common.{◌≡◌, ℕ, List, [], codes, Option, Some, None, Result, Ok, Err, sym, subst}
 use Rattle.std.proofs.lemmas.List.{append-nil}
-use Rattle.b2_metatargets.specs.declared.fault.DeclaringFault.{DeclaringFault}
-use Rattle.b2_metatargets.specs.declared.visit.Call.{Call}
-use Rattle.b2_metatargets.specs.declared.whole.Declared.{Declared}
-use Rattle.b2_metatargets.specs.Carrying.{tables_of}
-use Rattle.b2_metatargets.specs.Declaring.{declared}
+use Rattle.b2_declared.specs.declared.fault.DeclaringFault.{DeclaringFault}
+use Rattle.b2_declared.specs.declared.visit.Call.{Call}
+use Rattle.b2_declared.specs.declared.whole.Declared.{Declared}
+use Rattle.b2_declared.specs.Carrying.{tables_of}
+use Rattle.b2_declared.specs.Declaring.{declared}
 use Rattle.jam_journal.specs.Tables.{Text}
-use Rattle.jam_eval.specs.Eval.{run}
-use Rattle.jam_eval.specs.Kept.{Ends}
-use Rattle.jam_eval.specs.Outcomes.{Outcome, gives, faults}
-use Rattle.jam_eval.specs.Settings.{Setting, Reading, is_missing, is_too_big, has_no_tokens, has_no_tree, is_file}
+use Rattle.jam_meaning.specs.Eval.{run}
+use Rattle.jam_meaning.specs.Kept.{Ends}
+use Rattle.jam_meaning.specs.Outcomes.{Outcome, gives, faults}
+use Rattle.jam_meaning.specs.Settings.{Setting, Reading, is_missing, is_too_big, has_no_tokens, has_no_tree, is_file}
 use Rattle.jam_natives.specs.declared.decl.Decl.{Decl}
 use Rattle.jam_natives.specs.Keeping.{Kept}
 use Rattle.jam_natives.specs.Rows.{jam_meaning}
-use Rattle.b2_walk.specs.Laws.{KeepsRecord, FilesKeepRecord, AreRecorded, CallsAreRecorded}
-use Rattle.b2_walk.specs.Walks.{Walk, Course, goes_on, refused, after_run, run_text, no_walk, load_root, ComesTo}
+use Rattle.b2_project_walk.specs.Laws.{KeepsRecord, FilesKeepRecord, AreRecorded, CallsAreRecorded}
+use Rattle.b2_project_walk.specs.Walks.{Walk, Course, goes_on, refused, after_run, run_text, no_walk, load_root, ComesTo}
 use Rattle.b2_project.specs.Laws.{ComeFirst}
 use Rattle.b2_project.specs.Loads.{Ending, loaded, fails, with_declared, then_declare, up_to_toolset, IsToolsetRun, IsEquipped, IsAfterWalk, Loads}
 

@@ -10,26 +10,26 @@ use Rattle.b2_base.specs.Results.{and_then}
 use Rattle.b2_features.specs.declared.fault.FeatureFault.{FeatureFault}
 use Rattle.b2_features.specs.declared.fault.FeatureFault.TheVariants as features
 use Rattle.b2_gcc.specs.BuildText.{command_in, gcc_text}
-use Rattle.b2_metatargets.specs.declared.fault.DeclaringFault.{DeclaringFault}
-use Rattle.b2_metatargets.specs.declared.fault.DeclaringFault.TheVariants as declaring_faults
-use Rattle.b2_metatargets.specs.declared.visit.Visit.{Visit}
-use Rattle.b2_metatargets.specs.declared.visit.Call.{Call}
-use Rattle.b2_metatargets.specs.Outcomes.{all_steps, IsFaultOf}
-use Rattle.b2_metatargets.specs.Carrying.{Tables, no_tables, carrying, tables_of}
-use Rattle.b2_metatargets.specs.Gathering.{gathered_by}
-use Rattle.b2_metatargets.specs.Declaring.{whole, declared}
+use Rattle.b2_declared.specs.declared.fault.DeclaringFault.{DeclaringFault}
+use Rattle.b2_declared.specs.declared.fault.DeclaringFault.TheVariants as declaring_faults
+use Rattle.b2_declared.specs.declared.visit.Visit.{Visit}
+use Rattle.b2_declared.specs.declared.visit.Call.{Call}
+use Rattle.b2_declared.specs.Outcomes.{all_steps, IsFaultOf}
+use Rattle.b2_declared.specs.Carrying.{Tables, no_tables, carrying, tables_of}
+use Rattle.b2_declared.specs.Gathering.{gathered_by}
+use Rattle.b2_declared.specs.Declaring.{whole, declared}
 use Rattle.jam_journal.specs.Tables.{Text}
-use Rattle.jam_eval.specs.Settings.{Setting}
-use Rattle.jam_eval.specs.States.{State}
+use Rattle.jam_meaning.specs.Settings.{Setting}
+use Rattle.jam_meaning.specs.States.{State}
 use Rattle.jam_natives.specs.Keeping.{Kept}
-use Rattle.b2_walk.specs.declared.fault.LoadFault.{LoadFault}
-use Rattle.b2_walk.specs.declared.fault.LoadFault.TheVariants as faults
-use Rattle.b2_walk.specs.Faults.{refusal_of}
-use Rattle.b2_walk.specs.Walking.{IsRefusedBy, StopsBy, Follows}
-use Rattle.b2_walk.specs.Walks.{Walk, Refusal, declaring, Course, goes_on, refused, RunsText}
-use Rattle.b2_walk.proofs.TextRunsBesideProjects.{follows_from}
+use Rattle.b2_project_walk.specs.declared.fault.LoadFault.{LoadFault}
+use Rattle.b2_project_walk.specs.declared.fault.LoadFault.TheVariants as faults
+use Rattle.b2_project_walk.specs.Faults.{refusal_of}
+use Rattle.b2_project_walk.specs.Walking.{IsRefusedBy, StopsBy, Follows}
+use Rattle.b2_project_walk.specs.Walks.{Walk, Refusal, declaring, Course, goes_on, refused, RunsText}
+use Rattle.b2_project_walk.proofs.TextRunsBesideProjects.{follows_from}
 use Rattle.b2_project.specs.Loads.{toolset_of, ends_or_goes_on, up_to_toolset, IsToolsetRun, IsEquipped}
-use Rattle.b2_project.specs.Parts.{of_declaring, IsRefusalOf, IsOfThese, IsPlain, IsToolsetAt, IsTextOf, equipped}
+use Rattle.b2_project.specs.LoadParts.{of_declaring, IsRefusalOf, IsOfThese, IsPlain, IsToolsetAt, IsTextOf, equipped}
 
 -- ---- the first call that brings the toolset in
 

@@ -1,46 +1,46 @@
 -- What the calls of a walk declare, as the end of a load.
 use Rattle.std.specs.Prelude.{◌⊎◌, map as each}
 use Rattle.std.proofs.Common.{◌≡◌, ℕ, List, Option, Some, None, Result, Ok, Err, refl, ap, ◌∙◌, subst}
-use Rattle.b2_metatargets.specs.declared.fault.DeclaringFault.{DeclaringFault}
-use Rattle.b2_metatargets.specs.declared.whole.Declared.{Declared}
-use Rattle.b2_metatargets.specs.Declaring.{declared}
-use Rattle.b2_metatargets.specs.Laws.{visited}
-use Rattle.b2_metatargets.specs.Numbered.{IsNumbered}
+use Rattle.b2_declared.specs.declared.fault.DeclaringFault.{DeclaringFault}
+use Rattle.b2_declared.specs.declared.whole.Declared.{Declared}
+use Rattle.b2_declared.specs.Declaring.{declared}
+use Rattle.b2_declared.specs.Laws.{visited}
+use Rattle.b2_declared.specs.Numbered.{IsNumbered}
 use Rattle.jam_journal.specs.Tables.{Text}
-use Rattle.jam_eval.specs.Settings.{Setting}
+use Rattle.jam_meaning.specs.Settings.{Setting}
 use Rattle.jam_natives.specs.Keeping.{Kept}
 use Rattle.jam_natives.specs.Seeing.{kept_of}
-use Rattle.b2_walk.specs.declared.fault.LoadFault.{LoadFault}
-use Rattle.b2_walk.specs.declared.fault.LoadFault.TheVariants as faults
-use Rattle.b2_walk.specs.declared.walk.Walk.{Walk as Walking}
-use Rattle.b2_walk.specs.Faults.{refusal_of}
-use Rattle.b2_walk.specs.Walking.{walk_of, IsRefusedBy, StopsBy}
-use Rattle.b2_walk.specs.Walks.{Walk, Refusal, declaring, Course, goes_on, refused, state_in}
+use Rattle.b2_project_walk.specs.declared.fault.LoadFault.{LoadFault}
+use Rattle.b2_project_walk.specs.declared.fault.LoadFault.TheVariants as faults
+use Rattle.b2_project_walk.specs.declared.walk.WalkState.{WalkState}
+use Rattle.b2_project_walk.specs.Faults.{refusal_of}
+use Rattle.b2_project_walk.specs.Walking.{walk_of, IsRefusedBy, StopsBy}
+use Rattle.b2_project_walk.specs.Walks.{Walk, Refusal, declaring, Course, goes_on, refused, state_in}
 use Rattle.b2_project.specs.declared.project.Project.{Project}
 use Rattle.b2_project.specs.Loads.{Ending, loaded, fails, lines_of, with_declared, declare, then_declare, Loads}
 use Rattle.b2_project.specs.declared.load.Loaded.{Loaded}
 use Rattle.b2_project.specs.Loading.{IsRefused, IsLoaded, HasParentsBefore}
-use Rattle.b2_project.specs.Parts.{IsRefusalOf, ThroughComesTo}
+use Rattle.b2_project.specs.LoadParts.{IsRefusalOf, ThroughComesTo}
 use Rattle.b2_project.proofs.FirstToolsetCallDecides.{refusal_is_plain, refusal_says}
 
 -- the project is what the walk left, with what its calls declare
-pub record IsMadeOf (w : Walking) (project : Project) : Type 0 where
+pub record IsMadeOf (w : WalkState) (project : Project) : Type 0 where
   pub world : project.world ≡ w.world
   pub natives : project.natives ≡ w.natives
   pub found : declared w.visits w.calls.items ≡ Ok project.declared
 
 -- the project that a walk's calls declare, or the fault of the first one that is refused
-abbrev pub IsProjectOf : Walking → Result Project LoadFault → Type 0
+abbrev pub IsProjectOf : WalkState → Result Project LoadFault → Type 0
 IsProjectOf w (Ok project) = IsMadeOf w project × IsNumbered project.declared × HasParentsBefore project.declared × (each visited project.declared.places ≡ w.visits)
 IsProjectOf w (Err fault) = IsRefusalOf (declared w.visits w.calls.items) fault
 
 -- after a walk that is whole, that project; else the fault
-abbrev pub IsResultOf : Walking → Result (Unit {0}) LoadFault → Result Project LoadFault → Type 0
+abbrev pub IsResultOf : WalkState → Result (Unit {0}) LoadFault → Result Project LoadFault → Type 0
 IsResultOf w (Ok u) result = IsProjectOf w result
 IsResultOf w (Err fault) result = result ≡ Err fault
 
 -- the lines are those that were recorded, or no memory was left
-abbrev pub IsEnded : Walking → Result (Unit {0}) LoadFault → Loaded → Type 0
+abbrev pub IsEnded : WalkState → Result (Unit {0}) LoadFault → Loaded → Type 0
 IsEnded w ended made = (made.result ≡ Err faults.OutOfMemory) ⊎ ((made.echoes ≡ (kept_of w.natives).echoes) × IsResultOf w ended made.result)
 
 -- a fault that is none of the host
@@ -66,7 +66,7 @@ module _ (setting : Setting Kept) (words : List Text) (left : ℕ) where
   ends_as : (w : Walk) (ending : Ending) → ThroughComesTo setting left words (goes_on w) → declare w ≡ ending → Loads setting left words ending
   ends_as w ending through is = subst (Loads setting left words) is (ends (goes_on w) through)
 
-  module _ (w : Walking) (after : ℕ) (through : ThroughComesTo setting left words (goes_on (walk_of w after))) where
+  module _ (w : WalkState) (after : ℕ) (through : ThroughComesTo setting left words (goes_on (walk_of w after))) where
     made : (project : Project) → IsMadeOf w project → IsLoaded setting words left after (kept_of w.natives).echoes (Ok project)
     made project made_of = (
       walk_of w after,
@@ -92,11 +92,11 @@ module _ (setting : Setting Kept) (words : List Text) (left : ℕ) where
     declared_so (Err fault) h = refused_so fault h
 
   -- the load was refused before
-  refused_at : (w : Walking) (after : ℕ) (why : Option Refusal) → IsRefusedBy why (ThroughComesTo setting left words) (walk_of w after).state → IsRefused setting words left after (kept_of w.natives).echoes why
+  refused_at : (w : WalkState) (after : ℕ) (why : Option Refusal) → IsRefusedBy why (ThroughComesTo setting left words) (walk_of w after).state → IsRefused setting words left after (kept_of w.natives).echoes why
   refused_at w after None g = tt
   refused_at w after (Some why) g = ((walk_of w after).state, ends (refused why (walk_of w after).state) g, refl, refl)
 
-  pub stopped_so : (w : Walking) (after : ℕ) (fault : LoadFault) → StopsBy fault (ThroughComesTo setting left words) (walk_of w after).state
+  pub stopped_so : (w : WalkState) (after : ℕ) (fault : LoadFault) → StopsBy fault (ThroughComesTo setting left words) (walk_of w after).state
       → IsLoaded setting words left after (kept_of w.natives).echoes (Err fault)
   stopped_so w after faults.Host h = λ ending (whole, walk, course, rest, is).
       let (more, lines) = h course (whole, walk, rest) in

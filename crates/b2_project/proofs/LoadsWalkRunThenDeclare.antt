@@ -4,37 +4,37 @@ use Rattle.std.specs.Prelude.{IfOk, IfErr}
 use Rattle.b2_host.specs.Outside.{Outside}
 use Rattle.b2_host.specs.OutsideLaws.{keeps_then, then_rose}
 use Rattle.jam_journal.specs.Tables.{Text}
-use Rattle.jam_eval.specs.Refused.{Refuses}
-use Rattle.jam_eval.specs.RefusedLaws.{refuses_first, refuses_second}
-use Rattle.jam_eval.specs.Settings.{Setting}
-use Rattle.jam_eval.specs.States.{State}
+use Rattle.jam_meaning.specs.Refused.{Refuses}
+use Rattle.jam_meaning.specs.RefusedLaws.{refuses_first, refuses_second}
+use Rattle.jam_meaning.specs.Settings.{Setting}
+use Rattle.jam_meaning.specs.States.{State}
 use Rattle.jam_natives.specs.Keeping.{Kept}
 use Rattle.jam_natives.specs.Rows.{jam_meaning}
 use Rattle.jam_natives.specs.Seeing.{kept_of}
-use Rattle.b2_walk.proofs.TextRunsBesideProjects.{follows_from}
+use Rattle.b2_project_walk.proofs.TextRunsBesideProjects.{follows_from}
 use Rattle.jam_effects.specs.declared.turns.Turns.{Turns}
 use Rattle.jam_effects.specs.Machines.{folder_of}
-use Rattle.b2_metatargets.specs.declared.visit.Visit.{Visit}
-use Rattle.b2_metatargets.specs.declared.visit.Call.{Call}
-use Rattle.b2_metatargets.specs.declared.fault.DeclaringFault.{DeclaringFault}
-use Rattle.b2_metatargets.specs.Carrying.{tables_of}
-use Rattle.b2_metatargets.specs.Declaring.{declared}
-use Rattle.b2_walk.specs.declared.fault.LoadFault.{LoadFault}
-use Rattle.b2_walk.specs.declared.fault.LoadFault.TheVariants as faults
-use Rattle.b2_walk.specs.declared.walk.Walk.{Walk as Walking}
-use Rattle.b2_walk.specs.Faults.{refusal_of, refused_of, IsWhole, IsOfWalk}
-use Rattle.b2_walk.specs.Finding.{Looked, CountsFault, Counts}
-use Rattle.b2_walk.specs.Walking.{walk_of, IsSettingFor, IsRefusedBy, StopsBy, WalkComesTo, TellsWalk, AreOfProjects, AreAllVisited}
-use Rattle.b2_walk.specs.Walks.{Walk, Refusal, Course, goes_on, refused, state_in, no_walk, load_root}
-use Rattle.b2_walk.specs.Laws.{AddsLines}
-use Rattle.b2_walk.proofs.LinesAreOnlyAdded.{lines_same, lines_then, text_adds}
-use Rattle.b2_walk.proofs.OneCourse.{one_course}
+use Rattle.b2_declared.specs.declared.visit.Visit.{Visit}
+use Rattle.b2_declared.specs.declared.visit.Call.{Call}
+use Rattle.b2_declared.specs.declared.fault.DeclaringFault.{DeclaringFault}
+use Rattle.b2_declared.specs.Carrying.{tables_of}
+use Rattle.b2_declared.specs.Declaring.{declared}
+use Rattle.b2_project_walk.specs.declared.fault.LoadFault.{LoadFault}
+use Rattle.b2_project_walk.specs.declared.fault.LoadFault.TheVariants as faults
+use Rattle.b2_project_walk.specs.declared.walk.WalkState.{WalkState}
+use Rattle.b2_project_walk.specs.Faults.{refusal_of, refused_of, IsWhole, IsOfWalk}
+use Rattle.b2_project_walk.specs.Finding.{Looked, CountsFault, Counts}
+use Rattle.b2_project_walk.specs.Walking.{walk_of, IsSettingFor, IsRefusedBy, StopsBy, WalkComesTo, TellsWalk, AreOfProjects, AreAllVisited}
+use Rattle.b2_project_walk.specs.Walks.{Walk, Refusal, Course, goes_on, refused, state_in, no_walk, load_root}
+use Rattle.b2_project_walk.specs.Laws.{AddsLines}
+use Rattle.b2_project_walk.proofs.LinesAreOnlyAdded.{lines_same, lines_then, text_adds}
+use Rattle.b2_project_walk.proofs.OneCourse.{one_course}
 use Rattle.b2_project.specs.declared.load.Loaded.{Loaded}
 use Rattle.b2_project.specs.declared.project.Project.{Project}
 use Rattle.b2_project.specs.Loads.{up_to_toolset, IsToolsetRun, IsEquipped, IsAfterWalk}
 use Rattle.b2_project.specs.Loading.{HasParentsBefore, IsLoaded, TellsLoad, IsDeclaredBy, IsOfCalls, AreRecordedIn}
-use Rattle.b2_metatargets.specs.Numbered.{IsNumbered}
-use Rattle.b2_project.specs.Parts.{IsOfThese, IsOfTheseIf, equipped, RunsToolset, ThroughComesTo, IsClosed, AreOwned, AreAll, GoesThrough}
+use Rattle.b2_declared.specs.Numbered.{IsNumbered}
+use Rattle.b2_project.specs.LoadParts.{IsOfThese, IsOfTheseIf, equipped, RunsToolset, ThroughComesTo, IsClosed, AreOwned, AreAll, GoesThrough}
 use Rattle.b2_project.proofs.LoadsEndAsCallsDeclare.{IsProjectOf, IsResultOf, IsEnded, declared_so, stopped_so}
 use Rattle.b2_project.proofs.FirstToolsetCallDecides.{plain_refusal, refusal_of_these}
 use Rattle.b2_project.proofs.ToolsetRunsAfterTheWalk.{whole_walk}
@@ -101,7 +101,7 @@ none_of_calls words (faults.Eval fault) h = tt
 none_of_calls words (faults.Declaration path rule line) h = absurd h
 none_of_calls words (faults.Feature path line fault) h = absurd h
 
-pub walk_stopped : (words : List Text) (w : Walking) (first last : Turns) (from to : Outside) (fault : LoadFault) → TellsWalk from words first last w (Err fault) → IsOfWalk fault → IsClosed w
+pub walk_stopped : (words : List Text) (w : WalkState) (first last : Turns) (from to : Outside) (fault : LoadFault) → TellsWalk from words first last w (Err fault) → IsOfWalk fault → IsClosed w
     → last.left ≤ first.left → last.budget ≡ first.budget → Looked from to → CountsFault fault from to → GoesThrough words w first last from to (Err fault)
 walk_stopped words w first last from to fault told of_walk closed turns budget looked counts = record {
   told = λ setting right refuses. stops_before setting right.natives first.left words fault (walk_of w last.left).state (told setting right refuses);
@@ -115,7 +115,7 @@ walk_stopped words w first last from to fault told of_walk closed turns budget l
   counts = counts;
 }
 
-owned_later : (result : Result (Unit {0}) LoadFault) (w v : Walking) → AreOfProjects w.visits w.calls.items → v.visits ≡ w.visits → v.calls ≡ w.calls → AreOwned result v
+owned_later : (result : Result (Unit {0}) LoadFault) (w v : WalkState) → AreOfProjects w.visits w.calls.items → v.visits ≡ w.visits → v.calls ≡ w.calls → AreOwned result v
 owned_later (Ok u) w v owned visits calls = subst (λ vs. AreOfProjects vs v.calls.items) (sym visits) (subst (λ cs. AreOfProjects w.visits cs.items) (sym calls) owned)
 owned_later (Err fault) w v owned visits calls = tt
 
@@ -132,12 +132,12 @@ these_are_all words visits calls (faults.Eval fault) all h = tt
 these_are_all words visits calls (faults.Declaration path rule line) all h = record { visits = visits; calls = calls; all = all; is = h }
 these_are_all words visits calls (faults.Feature path line fault) all h = record { visits = visits; calls = calls; all = all; is = h }
 
-all_later : (words : List Text) (result : Result (Unit {0}) LoadFault) (w v : Walking) → AreAllVisited words w.visits w.calls.items → v.visits ≡ w.visits → v.calls ≡ w.calls → IsOfTheseIf w.visits w.calls.items result
+all_later : (words : List Text) (result : Result (Unit {0}) LoadFault) (w v : WalkState) → AreAllVisited words w.visits w.calls.items → v.visits ≡ w.visits → v.calls ≡ w.calls → IsOfTheseIf w.visits w.calls.items result
     → AreAll words result v
 all_later words (Ok u) w v all visits calls h = subst (λ vs. AreAllVisited words vs v.calls.items) (sym visits) (subst (λ cs. AreAllVisited words w.visits cs.items) (sym calls) all)
 all_later words (Err fault) w v all visits calls h = these_are_all words w.visits w.calls.items fault all h
 
-pub went_through : (words : List Text) (w v : Walking) (first middle last : Turns) (from there to : Outside) (result : Result (Unit {0}) LoadFault)
+pub went_through : (words : List Text) (w v : WalkState) (first middle last : Turns) (from there to : Outside) (result : Result (Unit {0}) LoadFault)
     → TellsWalk from words first middle w (Ok tt) → AreOfProjects w.visits w.calls.items → AreAllVisited words w.visits w.calls.items → IsClosed w → middle.left ≤ first.left → middle.budget ≡ first.budget → Looked from there → there.faults ≡ from.faults
     → RunsToolset w v middle last there to result → GoesThrough words v first last from to result
 went_through words w v first middle last from there to result told owned all closed turns budget looked counts two = record {
@@ -161,11 +161,11 @@ went_through words w v first middle last from there to result told owned all clo
 -- ---- the declarations
 
 -- declaring refuses no pattern
-none_refused : (w : Walking) (result : Result Project LoadFault) → IsProjectOf w result → refused_of result ≡ None
+none_refused : (w : WalkState) (result : Result Project LoadFault) → IsProjectOf w result → refused_of result ≡ None
 none_refused w (Ok project) h = refl
 none_refused w (Err fault) h = (plain_refusal (declared w.visits w.calls.items) fault h).none
 
-module _ (words : List Text) (w : Walking) (first last : Turns) (from to : Outside) where
+module _ (words : List Text) (w : WalkState) (first last : Turns) (from to : Outside) where
   told_result : (ended : Result (Unit {0}) LoadFault) (result : Result Project LoadFault) → GoesThrough words w first last from to ended → IsResultOf w ended result → TellsLoad from words first last (kept_of w.natives).echoes result
   told_result (Ok u) result through h setting right refuses =
       declared_so setting words first.left w last.left (through.told setting right (subst (Refuses setting.refused first.left last.left) (none_refused w result h) refuses)) result h
@@ -202,7 +202,7 @@ pub record IsReady (project : Project) : Type 0 where
   pub parents : HasParentsBefore project.declared
   pub closed : (project.world.now.scopes.frames ≡ []) × (is_some project.world.now.step ≡ false) × (project.world.marked ≡ [])
 
-ready_declared : (w : Walking) (result : Result Project LoadFault) → IsClosed w → IsProjectOf w result → IfOk result IsReady
+ready_declared : (w : WalkState) (result : Result Project LoadFault) → IsClosed w → IsProjectOf w result → IfOk result IsReady
 ready_declared w (Ok project) closed (made, places, parents, visits) = record {
   places = places;
   parents = parents;
@@ -210,7 +210,7 @@ ready_declared w (Ok project) closed (made, places, parents, visits) = record {
 }
 ready_declared w (Err fault) closed h = tt
 
-pub ready_load : (w : Walking) (ended : Result (Unit {0}) LoadFault) (made : Loaded) → IsClosed w → IsEnded w ended made → IfOk made.result IsReady
+pub ready_load : (w : WalkState) (ended : Result (Unit {0}) LoadFault) (made : Loaded) → IsClosed w → IsEnded w ended made → IfOk made.result IsReady
 ready_load w ended made closed (inl none) = subst (λ r. IfOk r IsReady) (sym none) tt
 ready_load w (Ok u) made closed (inr h) = ready_declared w made.result closed h.1
 ready_load w (Err fault) made closed (inr h) = subst (λ r. IfOk r IsReady) (sym h.1) tt
@@ -221,7 +221,7 @@ ready_as P (Err fault) f h = tt
 
 -- ---- what the calls declare, over every host
 
-module _ (words : List Text) (w : Walking) where
+module _ (words : List Text) (w : WalkState) where
   declares_so : (result : Result Project LoadFault) → AreAllVisited words w.visits w.calls.items → IsProjectOf w result → IfOk result (λ project. IsDeclaredBy words project.declared)
   declares_so (Ok project) all h = record { visits = w.visits; calls = w.calls.items; all = all; is = h.0.found; places = h.3 }
   declares_so (Err fault) all h = tt
@@ -241,11 +241,11 @@ module _ (words : List Text) (w : Walking) where
   refuses_load (Ok u) made all (inr h) = refuses_so made.result all h.1
   refuses_load (Err fault) made all (inr h) = subst (λ r. IfErr r (IsOfCalls words)) (sym h.1) all
 
-lines_so : (w : Walking) (echoes : List Text) (result : Result Project LoadFault) → echoes ≡ (kept_of w.natives).echoes → IsProjectOf w result → IfOk result (λ project. AreRecordedIn project echoes)
+lines_so : (w : WalkState) (echoes : List Text) (result : Result Project LoadFault) → echoes ≡ (kept_of w.natives).echoes → IsProjectOf w result → IfOk result (λ project. AreRecordedIn project echoes)
 lines_so w echoes (Ok project) is h = is ∙ ap (λ natives. (kept_of natives).echoes) (sym h.0.natives)
 lines_so w echoes (Err fault) is h = tt
 
-pub lines_load : (w : Walking) (ended : Result (Unit {0}) LoadFault) (made : Loaded) → IsEnded w ended made → IfOk made.result (λ project. AreRecordedIn project made.echoes)
+pub lines_load : (w : WalkState) (ended : Result (Unit {0}) LoadFault) (made : Loaded) → IsEnded w ended made → IfOk made.result (λ project. AreRecordedIn project made.echoes)
 lines_load w ended made (inl none) = subst (λ r. IfOk r (λ (project : Project). AreRecordedIn project made.echoes)) (sym none) tt
 lines_load w (Ok u) made (inr h) = lines_so w made.echoes made.result h.0 h.1
 lines_load w (Err fault) made (inr h) = subst (λ r. IfOk r (λ (project : Project). AreRecordedIn project made.echoes)) (sym h.1) tt

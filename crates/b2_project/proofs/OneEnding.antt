@@ -1,15 +1,15 @@
 -- A load ends in one way.
 use Rattle.std.proofs.Common.{◌≡◌, ℕ, List, codes, Option, Some, None, Result, Ok, Err, sym, ap, ◌∙◌, subst}
 use Rattle.b2_gcc.specs.BuildText.{command_in, gcc_text}
-use Rattle.b2_metatargets.specs.declared.fault.DeclaringFault.{DeclaringFault}
-use Rattle.b2_metatargets.specs.declared.visit.Call.{Call}
-use Rattle.b2_metatargets.specs.Carrying.{tables_of}
+use Rattle.b2_declared.specs.declared.fault.DeclaringFault.{DeclaringFault}
+use Rattle.b2_declared.specs.declared.visit.Call.{Call}
+use Rattle.b2_declared.specs.Carrying.{tables_of}
 use Rattle.jam_journal.specs.Tables.{Text}
-use Rattle.jam_eval.specs.Settings.{Setting}
+use Rattle.jam_meaning.specs.Settings.{Setting}
 use Rattle.jam_natives.specs.Keeping.{Kept}
-use Rattle.b2_walk.specs.Walks.{Walk, Course, goes_on, refused, run_text, no_walk, load_root}
-use Rattle.b2_walk.specs.Laws.{OneCourse}
-use Rattle.b2_walk.proofs.TextRunsBesideProjects.{one_text}
+use Rattle.b2_project_walk.specs.Walks.{Walk, Course, goes_on, refused, run_text, no_walk, load_root}
+use Rattle.b2_project_walk.specs.Laws.{OneCourse}
+use Rattle.b2_project_walk.proofs.TextRunsBesideProjects.{one_text}
 use Rattle.b2_project.specs.Loads.{then_declare, up_to_toolset, IsToolsetRun, IsEquipped, IsAfterWalk}
 use Rattle.b2_project.specs.Laws.{OneEnding}
 

@@ -3,7 +3,7 @@ use Rattle.std.proofs.Common.{◌≡◌, Bool, true, false, ◌||◌, [], ◌∷
 use Rattle.std.specs.Prelude.{if◌then◌else◌, map as each}
 use Rattle.std.specs.List.{list_any}
 use Rattle.std.specs.Str.{bytes_eq}
-use Rattle.b2_declarations.specs.Rules.{rules, rule_in, rule_of}
+use Rattle.b2_declaring_calls.specs.Rules.{rules, rule_in, rule_of}
 use Rattle.jam_journal.specs.Tables.{Text}
 use Rattle.jam_natives.specs.Rules.{is_declaring}
 

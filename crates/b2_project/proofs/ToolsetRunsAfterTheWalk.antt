@@ -5,27 +5,27 @@ use Rattle.std.specs.declared.vec.Vec.{Vec}
 use Rattle.std.specs.declared.alloc.Global.{Global}
 use Rattle.b2_host.specs.Outside.{Outside}
 use Rattle.b2_host.specs.OutsideLaws.{keeps_same}
-use Rattle.b2_metatargets.specs.declared.visit.Visit.{Visit}
-use Rattle.b2_metatargets.specs.declared.visit.Call.{Call}
+use Rattle.b2_declared.specs.declared.visit.Visit.{Visit}
+use Rattle.b2_declared.specs.declared.visit.Call.{Call}
 use Rattle.jam_journal.specs.Scopes.{Frame}
 use Rattle.jam_journal.specs.Tables.{Text}
-use Rattle.jam_eval.specs.Laws.{bounds}
-use Rattle.jam_eval.specs.Refused.{TookTurn}
+use Rattle.jam_meaning.specs.Laws.{bounds}
+use Rattle.jam_meaning.specs.Refused.{TookTurn}
 use Rattle.jam_scope.specs.Worlds.{Worlds}
 use Rattle.jam_effects.specs.declared.turns.Turns.{Turns}
-use Rattle.b2_walk.specs.declared.fault.LoadFault.{LoadFault}
-use Rattle.b2_walk.specs.declared.fault.LoadFault.TheVariants as faults
-use Rattle.b2_walk.specs.declared.walk.Walk.{Walk as Walking}
-use Rattle.b2_walk.specs.Faults.{refused_of, IsWhole, IsOfWalk}
-use Rattle.b2_walk.specs.Finding.{Looked, Counts}
-use Rattle.b2_walk.specs.Walking.{walk_of, TellsText}
-use Rattle.b2_project.specs.Parts.{IsOfThese, IsOfTheseIf, IsTextOf, IsWholeOf, StaysOpen, RunsToolset}
+use Rattle.b2_project_walk.specs.declared.fault.LoadFault.{LoadFault}
+use Rattle.b2_project_walk.specs.declared.fault.LoadFault.TheVariants as faults
+use Rattle.b2_project_walk.specs.declared.walk.WalkState.{WalkState}
+use Rattle.b2_project_walk.specs.Faults.{refused_of, IsWhole, IsOfWalk}
+use Rattle.b2_project_walk.specs.Finding.{Looked, Counts}
+use Rattle.b2_project_walk.specs.Walking.{walk_of, TellsText}
+use Rattle.b2_project.specs.LoadParts.{IsOfThese, IsOfTheseIf, IsTextOf, IsWholeOf, StaysOpen, RunsToolset}
 use Rattle.b2_project.proofs.FirstToolsetCallDecides.{plain_text, text_of_these, none_equips, unread_says, text_says}
 
 looked_same : (o : Outside) → Looked o o
 looked_same o = record { disk = refl; children = refl; keeps = keeps_same o o refl }
 
-stays_same : (a : Walking) → StaysOpen a a
+stays_same : (a : WalkState) → StaysOpen a a
 stays_same a = record { visits = refl; calls = refl; frames = λ h. h; step = refl; marked = refl }
 
 -- the same of equal lists
@@ -34,7 +34,7 @@ text_as visits vs calls cs result v k h = subst (λ vs. IsTextOf vs calls result
 
 -- ---- nothing is run
 
-pub nothing_brought : (a : Walking) (turns : Turns) (outside : Outside) (found : Option (Vec ℕ Global)) → found ≡ None → IsTextOf a.visits a.calls.items (Ok found) → RunsToolset a a turns turns outside outside (Ok tt)
+pub nothing_brought : (a : WalkState) (turns : Turns) (outside : Outside) (found : Option (Vec ℕ Global)) → found ≡ None → IsTextOf a.visits a.calls.items (Ok found) → RunsToolset a a turns turns outside outside (Ok tt)
 nothing_brought a turns outside found none h = record {
   told = λ setting right refuses. none_equips setting (walk_of a turns.left) (subst (λ f. IsTextOf a.visits a.calls.items (Ok f)) none h);
   stays = stays_same a;
@@ -47,7 +47,7 @@ nothing_brought a turns outside found none h = record {
   counts = refl;
 }
 
-pub text_unread : (a : Walking) (turns : Turns) (outside : Outside) (fault : LoadFault) → IsTextOf a.visits a.calls.items (Err fault) → RunsToolset a a turns turns outside outside (Err fault)
+pub text_unread : (a : WalkState) (turns : Turns) (outside : Outside) (fault : LoadFault) → IsTextOf a.visits a.calls.items (Err fault) → RunsToolset a a turns turns outside outside (Err fault)
 text_unread a turns outside fault h = record {
   told = λ setting right refuses. unread_says setting (walk_of a turns.left) fault h;
   stays = stays_same a;
@@ -60,7 +60,7 @@ text_unread a turns outside fault h = record {
   counts = (plain_text a.visits a.calls.items fault h).counts outside outside refl;
 }
 
-pub no_memory : (a : Walking) (turns : Turns) (outside : Outside) → RunsToolset a a turns turns outside outside (Err faults.OutOfMemory)
+pub no_memory : (a : WalkState) (turns : Turns) (outside : Outside) → RunsToolset a a turns turns outside outside (Err faults.OutOfMemory)
 no_memory a turns outside = record {
   told = λ setting right refuses. tt;
   stays = stays_same a;
@@ -85,10 +85,10 @@ pub record Leaves (before after : Worlds) : Type 0 where
   pub step : is_some after.now.step ≡ is_some before.now.step
   pub marked : after.marked ≡ before.marked
 
-stays_run : (a b : Walking) → b ≡ record a { world = b.world; natives = b.natives } → Leaves a.world b.world → StaysOpen a b
+stays_run : (a b : WalkState) → b ≡ record a { world = b.world; natives = b.natives } → Leaves a.world b.world → StaysOpen a b
 stays_run a b rest leaves = record {
-  visits = ap (λ (w : Walking). w.visits) rest;
-  calls = ap (λ (w : Walking). w.calls) rest;
+  visits = ap (λ (w : WalkState). w.visits) rest;
+  calls = ap (λ (w : WalkState). w.calls) rest;
   frames = λ none. no_frames b.world.now.scopes.frames (leaves.frames ∙ ap bounds none);
   step = leaves.step;
   marked = leaves.marked;
@@ -127,7 +127,7 @@ none_of_these_if : (visits : List Visit) (calls : List Call) (result : Result (U
 none_of_these_if visits calls (Ok u) h = tt
 none_of_these_if visits calls (Err fault) h = none_of_these visits calls fault h
 
-pub text_ran : (a b : Walking) (first last : Turns) (from to : Outside) (path : Text) (text : Vec ℕ Global) (bytes : List ℕ) (result : Result (Unit {0}) LoadFault) → path ≡ codes "gcc"
+pub text_ran : (a b : WalkState) (first last : Turns) (from to : Outside) (path : Text) (text : Vec ℕ Global) (bytes : List ℕ) (result : Result (Unit {0}) LoadFault) → path ≡ codes "gcc"
     → bytes ≡ text.items → IsTextOf a.visits a.calls.items (Ok (Some text)) → TellsText from path bytes first last a b result → b ≡ record a { world = b.world; natives = b.natives } → Leaves a.world b.world
     → IfErr result IsOfWalk → last.left ≤ first.left → last.budget ≡ first.budget → TookTurn (refused_of result) first.left last.left → Looked from to → Counts result from to
     → RunsToolset a b first last from to result

@@ -1,16 +1,16 @@
 -- Laws of loads.
 use Rattle.std.specs.Prelude.{◌≡◌, ◌++◌, ℕ, List, is_some}
-use Rattle.b2_declarations.specs.Rules.{rule_of}
-use Rattle.b2_metatargets.specs.declared.visit.Call.{Call}
-use Rattle.b2_metatargets.specs.declared.whole.Declared.{Declared}
+use Rattle.b2_declaring_calls.specs.Rules.{rule_of}
+use Rattle.b2_declared.specs.declared.visit.Call.{Call}
+use Rattle.b2_declared.specs.declared.whole.Declared.{Declared}
 use Rattle.jam_journal.specs.Tables.{Text}
-use Rattle.jam_eval.specs.Settings.{Setting}
+use Rattle.jam_meaning.specs.Settings.{Setting}
 use Rattle.jam_natives.specs.declared.decl.Decl.{Decl}
 use Rattle.jam_natives.specs.Keeping.{Kept}
 use Rattle.jam_natives.specs.Rows.{jam_meaning}
 use Rattle.jam_natives.specs.Rules.{is_declaring}
-use Rattle.b2_walk.specs.Laws.{AreRecorded}
-use Rattle.b2_walk.specs.Walks.{Walk}
+use Rattle.b2_project_walk.specs.Laws.{AreRecorded}
+use Rattle.b2_project_walk.specs.Walks.{Walk}
 use Rattle.b2_project.specs.Loads.{Ending, loaded, Loads}
 
 -- a load ends in one way

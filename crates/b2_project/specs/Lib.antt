@@ -7,5 +7,5 @@
 pub mod Loads
 pub mod Loading
 pub mod Laws
-pub mod Parts
+pub mod LoadParts
 pub mod Targets

@@ -1,26 +1,26 @@
 -- What the answer of a load says.
 use Rattle.std.specs.Prelude.{◌≡◌, ℕ, List, ◌++◌, map as each, Option, Some, None, Result, Ok, Err}
 use Rattle.b2_host.specs.Outside.{Outside}
-use Rattle.b2_metatargets.specs.declared.fault.DeclaringFault.{DeclaringFault}
-use Rattle.b2_metatargets.specs.declared.fault.DeclaringFault.TheVariants as declaring_faults
-use Rattle.b2_metatargets.specs.declared.visit.Visit.{Visit}
-use Rattle.b2_metatargets.specs.declared.visit.Call.{Call}
-use Rattle.b2_metatargets.specs.declared.whole.Declared.{Declared}
-use Rattle.b2_metatargets.specs.Declaring.{declared}
-use Rattle.b2_metatargets.specs.Laws.{visited}
+use Rattle.b2_declared.specs.declared.fault.DeclaringFault.{DeclaringFault}
+use Rattle.b2_declared.specs.declared.fault.DeclaringFault.TheVariants as declaring_faults
+use Rattle.b2_declared.specs.declared.visit.Visit.{Visit}
+use Rattle.b2_declared.specs.declared.visit.Call.{Call}
+use Rattle.b2_declared.specs.declared.whole.Declared.{Declared}
+use Rattle.b2_declared.specs.Declaring.{declared}
+use Rattle.b2_declared.specs.Laws.{visited}
 use Rattle.jam_journal.specs.Tables.{Text}
-use Rattle.jam_eval.specs.Refused.{Refuses}
-use Rattle.jam_eval.specs.Settings.{Setting}
-use Rattle.jam_eval.specs.States.{State}
+use Rattle.jam_meaning.specs.Refused.{Refuses}
+use Rattle.jam_meaning.specs.Settings.{Setting}
+use Rattle.jam_meaning.specs.States.{State}
 use Rattle.jam_natives.specs.Keeping.{Kept}
 use Rattle.jam_natives.specs.Seeing.{kept_of}
 use Rattle.jam_effects.specs.declared.turns.Turns.{Turns}
-use Rattle.b2_walk.specs.declared.fault.LoadFault.{LoadFault}
-use Rattle.b2_walk.specs.declared.fault.LoadFault.TheVariants as faults
-use Rattle.b2_walk.specs.Directories.{HaveParentsBefore}
-use Rattle.b2_walk.specs.Faults.{refusal_of, refused_of}
-use Rattle.b2_walk.specs.Walking.{IsSettingFor, AreAllVisited}
-use Rattle.b2_walk.specs.Walks.{Walk, Refusal}
+use Rattle.b2_project_walk.specs.declared.fault.LoadFault.{LoadFault}
+use Rattle.b2_project_walk.specs.declared.fault.LoadFault.TheVariants as faults
+use Rattle.b2_project_walk.specs.Directories.{HaveParentsBefore}
+use Rattle.b2_project_walk.specs.Faults.{refusal_of, refused_of}
+use Rattle.b2_project_walk.specs.Walking.{IsSettingFor, AreAllVisited}
+use Rattle.b2_project_walk.specs.Walks.{Walk, Refusal}
 use Rattle.b2_project.specs.declared.project.Project.{Project}
 use Rattle.b2_project.specs.Loads.{Ending, loaded, fails, lines_of, Loads}
 

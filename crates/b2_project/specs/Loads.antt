@@ -1,18 +1,18 @@
 -- What a load gives.
 use Rattle.std.specs.Prelude.{◌≡◌, ℕ, List, [], ◌∷◌, codes, Option, Some, None, Result, Ok, Err}
-use Rattle.b2_declarations.specs.declared.declaration.Declaration.{Declaration}
-use Rattle.b2_declarations.specs.declared.declaration.Declaration.TheVariants as declarations
+use Rattle.b2_declaring_calls.specs.declared.declaration.Declaration.{Declaration}
+use Rattle.b2_declaring_calls.specs.declared.declaration.Declaration.TheVariants as declarations
 use Rattle.b2_gcc.specs.BuildText.{command_in, gcc_text}
-use Rattle.b2_metatargets.specs.declared.fault.DeclaringFault.{DeclaringFault}
-use Rattle.b2_metatargets.specs.declared.visit.Call.{Call}
-use Rattle.b2_metatargets.specs.declared.whole.Declared.{Declared}
-use Rattle.b2_metatargets.specs.Carrying.{tables_of}
-use Rattle.b2_metatargets.specs.Declaring.{declared}
+use Rattle.b2_declared.specs.declared.fault.DeclaringFault.{DeclaringFault}
+use Rattle.b2_declared.specs.declared.visit.Call.{Call}
+use Rattle.b2_declared.specs.declared.whole.Declared.{Declared}
+use Rattle.b2_declared.specs.Carrying.{tables_of}
+use Rattle.b2_declared.specs.Declaring.{declared}
 use Rattle.jam_journal.specs.Tables.{Text}
-use Rattle.jam_eval.specs.States.{State}
-use Rattle.jam_eval.specs.Settings.{Setting}
+use Rattle.jam_meaning.specs.States.{State}
+use Rattle.jam_meaning.specs.Settings.{Setting}
 use Rattle.jam_natives.specs.Keeping.{Kept}
-use Rattle.b2_walk.specs.Walks.{Walk, Refusal, declaring, Course, goes_on, refused, RunsText, no_walk, load_root, ComesTo}
+use Rattle.b2_project_walk.specs.Walks.{Walk, Refusal, declaring, Course, goes_on, refused, RunsText, no_walk, load_root, ComesTo}
 
 -- a project: the whole walk, and what its calls declare; or why the load is refused, with what stands then
 pub data Ending : Type 0 where

@@ -1,6 +1,6 @@
 -- A main target more.
 use Rattle.std.specs.Prelude.{[], ◌∷◌, ◌++◌}
-use Rattle.b2_metatargets.specs.declared.place.Target.{Target}
+use Rattle.b2_declared.specs.declared.place.Target.{Target}
 use Rattle.b2_project.specs.declared.project.Project.{Project}
 
 -- a main target stands behind the others

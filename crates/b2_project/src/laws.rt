@@ -1,7 +1,7 @@
 //! Laws of loads.
 ghost use Rattle.b2_project.specs.Laws.{OneEnding, LoadedAreRecorded, RecordedDeclare};
 
-use b2_walk::laws::{calls_are_recorded, files_keep_record, one_course};
+use b2_project_walk::laws::{calls_are_recorded, files_keep_record, one_course};
 
 /// A load ends in one way.
 pub fn one_ending()

@@ -2,23 +2,23 @@
 ghost use Rattle.std.specs.Prelude.{◌≡◌, ◌≤◌, [], false, is_some, IfOk, IfErr};
 ghost use Rattle.b2_host.specs.OutsideLaws.{Keeps};
 ghost use Rattle.jam_natives.specs.Seeing.{kept_of};
-ghost use Rattle.b2_walk.specs.Faults.{IsWhole};
-ghost use Rattle.b2_walk.specs.Finding.{Counts};
-ghost use Rattle.b2_walk.specs.Walking.{IsNew, AreOfProjects};
+ghost use Rattle.b2_project_walk.specs.Faults.{IsWhole};
+ghost use Rattle.b2_project_walk.specs.Finding.{Counts};
+ghost use Rattle.b2_project_walk.specs.Walking.{IsNew, AreOfProjects};
 ghost use Rattle.b2_project.specs.Loading.{TellsLoad, HasParentsBefore, IsDeclaredBy, IsOfCalls, AreRecordedIn};
-ghost use Rattle.b2_metatargets.specs.Numbered.{IsNumbered};
-ghost use Rattle.b2_project.specs.Parts.{AreOwned, GoesThrough, IsDeclaredOf, IsFoundOf, IsToldOf, project_of, project_in};
+ghost use Rattle.b2_declared.specs.Numbered.{IsNumbered};
+ghost use Rattle.b2_project.specs.LoadParts.{AreOwned, GoesThrough, IsDeclaredOf, IsFoundOf, IsToldOf, project_of, project_in};
 
 use crate::project::Project;
 use crate::toolset::{declaring_fault, run_toolset};
 use b2_base::fault::OutOfMemory;
 use b2_base::text::Text;
 use b2_base::text_list::{TextList, copy_texts};
+use b2_declared::outcome::declared;
+use b2_declared::whole::Declared;
 use b2_host::files::Files;
-use b2_metatargets::metatargets::declared;
-use b2_metatargets::whole::Declared;
-pub use b2_walk::fault::LoadFault;
-use b2_walk::walk::Walk;
+pub use b2_project_walk::fault::LoadFault;
+use b2_project_walk::walk::WalkState;
 use jam_effects::turns::Turns;
 use std::alloc::Global;
 
@@ -32,7 +32,7 @@ pub struct Loaded {
 /// Visits all projects, and runs the build text of the toolset, where a call brings it in.
 fn go_through<F: Files>(
     alloc: Global,
-    walk: &mut Walk,
+    walk: &mut WalkState,
     files: &mut F,
     turns: &mut Turns,
     words: &[Text],
@@ -45,7 +45,7 @@ fn go_through<F: Files>(
 }
 
 /// What the calls of a walk declare.
-fn declares(alloc: Global, walk: &Walk) -> Result<Declared, LoadFault>
+fn declares(alloc: Global, walk: &WalkState) -> Result<Declared, LoadFault>
     requires { AreOfProjects walk.now.visits walk.now.calls.items }
     ensures { IsDeclaredOf walk.now result }
 {
@@ -56,7 +56,11 @@ fn declares(alloc: Global, walk: &Walk) -> Result<Declared, LoadFault>
 }
 
 /// What a walk that ended so leads to.
-fn found_of(alloc: Global, walk: &Walk, ended: Result<(), LoadFault>) -> Result<Declared, LoadFault>
+fn found_of(
+    alloc: Global,
+    walk: &WalkState,
+    ended: Result<(), LoadFault>,
+) -> Result<Declared, LoadFault>
     requires { AreOwned ended walk.now }
     ensures { IsFoundOf walk.now ended result }
 {
@@ -67,30 +71,30 @@ fn found_of(alloc: Global, walk: &Walk, ended: Result<(), LoadFault>) -> Result<
 }
 
 /// The lines that were recorded.
-fn lines_of(alloc: Global, walk: &Walk) -> Result<TextList, OutOfMemory>
+fn lines_of(alloc: Global, walk: &WalkState) -> Result<TextList, OutOfMemory>
     ensures { IfOk result (λ lines. lines ≡ (kept_of walk.now.natives).echoes) }
 {
     copy_texts(alloc, walk.natives.echoes())
 }
 
 /// The lines of a walk, and what it leads to.
-struct Told {
+struct WalkReport {
     echoes: TextList,
     found: Result<Declared, LoadFault>,
 }
 
 /// What a walk that ended so tells; out of memory, where there was none for its lines. These are those that were recorded, also
 /// where the host failed.
-fn told_of(alloc: Global, walk: &Walk, ended: Result<(), LoadFault>) -> Told
+fn told_of(alloc: Global, walk: &WalkState, ended: Result<(), LoadFault>) -> WalkReport
     requires { AreOwned ended walk.now }
     ensures { IsToldOf walk.now ended result }
 {
     match lines_of(alloc, walk) {
-        Ok(echoes) => Told {
+        Ok(echoes) => WalkReport {
             echoes,
             found: found_of(alloc, walk, ended),
         },
-        Err(_) => Told {
+        Err(_) => WalkReport {
             echoes: TextList::new(alloc),
             found: Err(LoadFault::OutOfMemory),
         },
@@ -98,7 +102,7 @@ fn told_of(alloc: Global, walk: &Walk, ended: Result<(), LoadFault>) -> Told
 }
 
 /// The project of a walk: its world, what its natives keep, and what its calls declare.
-fn project_of(walk: Walk, declared: Declared) -> Project
+fn project_of(walk: WalkState, declared: Declared) -> Project
     ensures { result ≡ project_of walk declared }
 {
     Project {
@@ -108,7 +112,7 @@ fn project_of(walk: Walk, declared: Declared) -> Project
     }
 }
 
-fn answer(walk: Walk, echoes: TextList, found: Result<Declared, LoadFault>) -> Loaded
+fn answer(walk: WalkState, echoes: TextList, found: Result<Declared, LoadFault>) -> Loaded
     ensures echoes { result.echoes ≡ echoes }
     ensures result { result.result ≡ project_in walk found }
 {
@@ -164,12 +168,12 @@ pub fn load<F: Files>(alloc: Global, files: &mut F, words: &[Text], turns: &mut 
     ensures keeps { Keeps (F.outside files.old) (F.outside files.new) }
     ensures counts { Counts result.result (F.outside files.old) (F.outside files.new) }
 {
-    let mut walk = match Walk::new(alloc) {
+    let mut walk = match WalkState::new(alloc) {
         Ok(walk) => walk,
         Err(_) => return no_memory(alloc),
     };
     let ended = go_through(alloc, &mut walk, files, turns, words);
     let told = told_of(alloc, &walk, ended);
-    let Told { echoes, found } = told;
+    let WalkReport { echoes, found } = told;
     answer(walk, echoes, found)
 }

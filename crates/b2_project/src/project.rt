@@ -3,8 +3,8 @@ ghost use Rattle.std.specs.Prelude.{◌≡◌, ◌<◌, length, OnOk, OnErr};
 ghost use Rattle.b2_project.specs.Targets.{with_target};
 
 use b2_base::fault::OutOfMemory;
-use b2_metatargets::place::Target;
-use b2_metatargets::whole::Declared;
+use b2_declared::place::Target;
+use b2_declared::whole::Declared;
 use jam_natives::natives::JamNatives;
 use jam_scope::world::World;
 

@@ -1,22 +1,22 @@
 //! The toolset, whose build text runs where a call brings it in.
 ghost use Rattle.std.specs.Prelude.{◌≡◌, codes, is_some, IfOk};
 ghost use Rattle.std.specs.Option.{IfSome, option_copied};
-ghost use Rattle.b2_walk.specs.Walking.{AreOfProjects};
+ghost use Rattle.b2_project_walk.specs.Walking.{AreOfProjects};
 ghost use Rattle.b2_project.specs.Loads.{toolset_of};
-ghost use Rattle.b2_project.specs.Parts.{of_declaring, IsToolsetAt, IsTextOf, RunsToolset};
+ghost use Rattle.b2_project.specs.LoadParts.{of_declaring, IsToolsetAt, IsTextOf, RunsToolset};
 
 use b2_base::fault::OutOfMemory;
 use b2_base::path::{Path, path_of};
 use b2_base::text::Text;
-use b2_declarations::declaration::Declaration;
+use b2_declared::fault::DeclaringFault;
+use b2_declared::tables::carry_out;
+use b2_declared::visit::{Call, Visit};
+use b2_declaring_calls::declaration::Declaration;
 use b2_features::fault::FeatureFault;
 use b2_gcc::text::gcc_text;
 use b2_host::files::Files;
-use b2_metatargets::fault::DeclaringFault;
-use b2_metatargets::tables::carry_out;
-use b2_metatargets::visit::{Call, Visit};
-use b2_walk::fault::LoadFault;
-use b2_walk::walk::Walk;
+use b2_project_walk::fault::LoadFault;
+use b2_project_walk::walk::WalkState;
 use jam_effects::turns::Turns;
 use std::alloc::Global;
 
@@ -97,7 +97,7 @@ fn toolset_text(
 /// Runs the build text of the toolset, where a call brings the toolset in and the calls up to that one can be carried out.
 pub(crate) fn run_toolset<F: Files>(
     alloc: Global,
-    walk: &mut Walk,
+    walk: &mut WalkState,
     files: &mut F,
     turns: &mut Turns,
 ) -> Result<(), LoadFault>

@@ -1,6 +1,6 @@
 //! The texts of refusals, which are put to the current line.
 use b2_features::fault::FeatureFault;
-use b2_walk::fault::LoadFault;
+use b2_project_walk::fault::LoadFault;
 use jam_effects::fault::{EvalCause, EvalFault};
 use jam_interp_cases::evaluation::faults::put_cause;
 use jam_lexer::fault::LexFault;

@@ -1,8 +1,8 @@
 //! Projects and main targets.
 use crate::shown::{push_list, push_pair_list, push_requirements};
 use b2_base::path::Path;
-use b2_conversions_cases::declarations::shown::kind_word;
-use b2_metatargets::place::{IndirectRule, Place, Target, TestCall};
+use b2_declared::place::{IndirectRule, Place, Target, TestCall};
+use b2_making_cases::declarations::shown::kind_word;
 use jam_natives::decl::Decl;
 use std::alloc::Global;
 use transcript::answer::Answer;

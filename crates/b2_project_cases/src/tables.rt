@@ -1,10 +1,10 @@
 //! What a load declares in the tables of features, types and generators, and the directories of its ids.
 use crate::shown::push_pair_list;
+use b2_declared::ids::Ids;
 use b2_features::feature::Feature;
 use b2_features::registry::Registry;
 use b2_generators::generator::Generator;
 use b2_generators::types::Types;
-use b2_metatargets::ids::Ids;
 use std::alloc::Global;
 use transcript::answer::Answer;
 use transcript::case_fault::CaseFault;

@@ -9,7 +9,7 @@ use Rattle.std.specs.FinMap.{FinMap, get, insert}
 use Rattle.std.proofs.lemmas.List.Elements.{filter_agree}
 use Rattle.std.proofs.Math.Seq.{drop-cons}
 use Rattle.b2_features.specs.declared.attribute.Attribute.TheVariants.{Free}
-use Rattle.b2_features.specs.Table.{Declared}
+use Rattle.b2_features.specs.Table.{DeclaredFeature}
 use Rattle.b2_features.specs.Faults.{is_with}
 use Rattle.b2_features.proofs.NewValuesKeepAllApart.{get_put}
 use Rattle.b2_props.specs.Sets.{Pair, value_of}
@@ -43,16 +43,16 @@ taken_more {V} m new feature u start xs i x within is same e so_far q =
     go false o false false e = e
 
 -- the features taken after one more pair
-pub seen_next : (table : List Declared) (required : List Pair) (i : ℕ) (x : Pair) → i < length required → x ≡ get_or required i x
+pub seen_next : (table : List DeclaredFeature) (required : List Pair) (i : ℕ) (x : Pair) → i < length required → x ≡ get_or required i x
     → required ++ components table (take (i + 1) required) ≡ (required ++ components table (take i required)) ++ parts_in table x
 seen_next table required i x within is = ap (λ ps. required ++ ps) (components_next table required i x within is) ∙ sym (append_assoc required (components table (take i required)) (parts_in table x))
 
 -- what is brought, where a test tells what is taken
-pub brought_by : (table : List Declared) (seen : List Pair) (x : Pair) (test : List ℕ → Bool) → ((q : List ℕ) → test q ≡ names seen q) → filter (λ part. is_with Free table part.0 || not (test part.0)) (parts_in table x) ≡ brought table seen x
+pub brought_by : (table : List DeclaredFeature) (seen : List Pair) (x : Pair) (test : List ℕ → Bool) → ((q : List ℕ) → test q ≡ names seen q) → filter (λ part. is_with Free table part.0 || not (test part.0)) (parts_in table x) ≡ brought table seen x
 brought_by table seen x test agree = filter_agree (λ (part : Pair). is_with Free table part.0 || not (test part.0)) (λ (part : Pair). is_with Free table part.0 || not (names seen part.0)) (λ part. ap (λ b. is_with Free table part.0 || not b) (agree part.0)) (parts_in table x)
 
 -- one more required pair with what it brings
-pub complete_next : (table : List Declared) (required : List Pair) (i : ℕ) (x : Pair) (whole more : List Pair) → i < length required → x ≡ get_or required i x
+pub complete_next : (table : List DeclaredFeature) (required : List Pair) (i : ℕ) (x : Pair) (whole more : List Pair) → i < length required → x ≡ get_or required i x
     → more ≡ brought table (required ++ components table (take i required)) x
     → whole ++ completed_from table (required ++ components table (take i required)) (drop i required) ≡ completed table required
     → ((whole ++ x ∷ []) ++ more) ++ completed_from table (required ++ components table (take (i + 1) required)) (drop (i + 1) required) ≡ completed table required

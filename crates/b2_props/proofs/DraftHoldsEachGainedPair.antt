@@ -17,7 +17,7 @@ use Rattle.std.proofs.lemmas.Option.{slice_get_within, get_or_from_slice_get}
 use Rattle.std.proofs.lemmas.List.Elements.{filter-append, filter_map-append}
 use Rattle.std.proofs.lemmas.List.Folds.{list_any-append}
 use Rattle.b2_features.specs.declared.attribute.Attribute.TheVariants.{Free}
-use Rattle.b2_features.specs.Table.{Declared}
+use Rattle.b2_features.specs.Table.{DeclaredFeature}
 use Rattle.b2_features.specs.Faults.{is_with}
 use Rattle.b2_features.proofs.NewValuesKeepAllApart.{get_put}
 use Rattle.b2_props.specs.declared.draft.Draft.{Draft}
@@ -37,12 +37,12 @@ pair_ties p q = go (slice_cmp nat_cmp p.0 q.0) (is_eq-slice_cmp p.0 q.0)
 
 -- ---- one pair more
 
-free_push : (table : List Declared) (pairs : List Pair) (p : Pair) (b : Bool) → is_with Free table p.0 ≡ b → free_of table (pairs ++ p ∷ []) ≡ cond b (free_of table pairs ++ p ∷ []) (free_of table pairs)
+free_push : (table : List DeclaredFeature) (pairs : List Pair) (p : Pair) (b : Bool) → is_with Free table p.0 ≡ b → free_of table (pairs ++ p ∷ []) ≡ cond b (free_of table pairs ++ p ∷ []) (free_of table pairs)
 free_push table pairs p true e = filter-append (λ q. is_with Free table q.0) pairs (p ∷ []) ∙ ap (λ c. free_of table pairs ++ cond c (p ∷ []) []) e
 free_push table pairs p false e = filter-append (λ q. is_with Free table q.0) pairs (p ∷ []) ∙ ap (λ c. free_of table pairs ++ cond c (p ∷ []) []) e ∙ append-nil (free_of table pairs)
 
 -- a free pair says nothing of a feature that is not free
-other_feature : (table : List Declared) (p : Pair) (q : List ℕ) → is_with Free table p.0 ≡ true → is_with Free table q ≡ false → value_of (p ∷ []) q ≡ None
+other_feature : (table : List DeclaredFeature) (p : Pair) (q : List ℕ) → is_with Free table p.0 ≡ true → is_with Free table q ≡ false → value_of (p ∷ []) q ≡ None
 other_feature table p q free not_free = go (bytes_eq q p.0) refl
   where
     go : (b : Bool) → bytes_eq q p.0 ≡ b → cond b (Some p.1) None ≡ None
@@ -59,7 +59,7 @@ known_more p q ys b e = go b (list_any (same q) ys) e ∙ sym (list_any-append (
     go false false e = sym (ap (λ t. t || false) (same_sym q p ∙ e))
 
 -- the free pairs after one more
-module _ (table : List Declared) (pairs : List Pair) (p : Pair) (old new : Draft) where
+module _ (table : List DeclaredFeature) (pairs : List Pair) (p : Pair) (old new : Draft) where
   free_more : is_with Free table p.0 ≡ true → HasOneMore p old new → old.free.items ≡ firsts (free_of table pairs) → ((q : Pair) → contains pair_cmp old.known q ≡ list_any (same q) (free_of table pairs)) → new.free.items ≡ firsts (free_of table (pairs ++ p ∷ []))
   free_more free more was known =
       more.free ∙ ap₂ (λ c zs. cond c zs (zs ++ p ∷ [])) (known p) was ∙ sym (firsts_push (free_of table pairs) p) ∙ sym (ap firsts (free_push table pairs p true free))
@@ -68,7 +68,7 @@ module _ (table : List Declared) (pairs : List Pair) (p : Pair) (old new : Draft
   known_after free more known q =
       more.known q ∙ ap (cond (same p q) true) (known q) ∙ known_more p q (free_of table pairs) (same p q) refl ∙ sym (ap (list_any (same q)) (free_push table pairs p true free))
 
-pub gain_free : (table : List Declared) (p : Pair) (old new : Draft) → is_with Free table p.0 ≡ true → HasOneMore p old new → Gains table (p ∷ []) old new
+pub gain_free : (table : List DeclaredFeature) (p : Pair) (old new : Draft) → is_with Free table p.0 ≡ true → HasOneMore p old new → Gains table (p ∷ []) old new
 gain_free table p old new free more = record {
   holding = λ had pairs holds. record {
     values = λ q not_free. ap (λ m. get m q) more.values ∙ holds.values q not_free ∙ sym (ap (option_or (had q)) (other_feature table p q free not_free) ∙ option_or-none (had q));
@@ -77,7 +77,7 @@ gain_free table p old new free more = record {
   };
 }
 
-pub take_free : (table : List Declared) (p : Pair) (old new : Draft) → is_with Free table p.0 ≡ true → HasOneMore p old new → Takes table (p ∷ []) old new
+pub take_free : (table : List DeclaredFeature) (p : Pair) (old new : Draft) → is_with Free table p.0 ≡ true → HasOneMore p old new → Takes table (p ∷ []) old new
 take_free table p old new free more = record {
   holding = λ had pairs holds. record {
     values = λ q not_free. ap (λ m. get m q) more.values ∙ holds.values q not_free ∙ sym (ap (λ o. option_or o (had q)) (other_feature table p q free not_free));
@@ -87,7 +87,7 @@ take_free table p old new free more = record {
 }
 
 -- a value where there was none
-pub gain_value : (table : List Declared) (p : Pair) (old new : Draft) → is_with Free table p.0 ≡ false → get old.values p.0 ≡ None → HasValue p old new → Gains table (p ∷ []) old new
+pub gain_value : (table : List DeclaredFeature) (p : Pair) (old new : Draft) → is_with Free table p.0 ≡ false → get old.values p.0 ≡ None → HasValue p old new → Gains table (p ∷ []) old new
 gain_value table p old new not_free none set = record {
   holding = λ had pairs holds. record {
     values = λ q here. ap (λ m. get m q) set.values ∙ get_put old.values p.0 p.1 q ∙ go q (bytes_eq q p.0) refl ∙ ap (λ o. option_or o (value_of (p ∷ []) q)) (holds.values q here);
@@ -101,7 +101,7 @@ gain_value table p old new not_free none set = record {
     go q false e = sym (option_or-none (get old.values q))
 
 -- a value that is there stays
-pub gain_nothing : (table : List Declared) (p : Pair) (d : Draft) → is_with Free table p.0 ≡ false → is_some (get d.values p.0) ≡ true → Gains table (p ∷ []) d d
+pub gain_nothing : (table : List DeclaredFeature) (p : Pair) (d : Draft) → is_with Free table p.0 ≡ false → is_some (get d.values p.0) ≡ true → Gains table (p ∷ []) d d
 gain_nothing table p d not_free there = record {
   holding = λ had pairs holds. record {
     values = λ q here. holds.values q here ∙ sym (go q (had q) (bytes_eq q p.0) refl (sym (holds.values q here)));
@@ -115,7 +115,7 @@ gain_nothing table p d not_free there = record {
     go q (Some x) true e f = refl
     go q None true e f = let bad : false ≡ true = ap is_some (f ∙ ap (get d.values) (text_is q p.0 e)) ∙ there in cc
 
-pub take_value : (table : List Declared) (p : Pair) (old new : Draft) → is_with Free table p.0 ≡ false → HasValue p old new → Takes table (p ∷ []) old new
+pub take_value : (table : List DeclaredFeature) (p : Pair) (old new : Draft) → is_with Free table p.0 ≡ false → HasValue p old new → Takes table (p ∷ []) old new
 take_value table p old new not_free set = record {
   holding = λ had pairs holds. record {
     values = λ q here. ap (λ m. get m q) set.values ∙ get_put old.values p.0 p.1 q ∙ go (bytes_eq q p.0) (get old.values q) (had q) (holds.values q here);
@@ -130,7 +130,7 @@ take_value table p old new not_free set = record {
 
 -- ---- one list after another
 
-pub gains_more : (table : List Declared) (a b : List Pair) (d e f : Draft) → Gains table a d e → Gains table b e f → Gains table (a ++ b) d f
+pub gains_more : (table : List DeclaredFeature) (a b : List Pair) (d e f : Draft) → Gains table a d e → Gains table b e f → Gains table (a ++ b) d f
 gains_more table a b d e f first second = record {
   holding = λ had pairs holds.
       let after = second.holding _ _ (first.holding had pairs holds) in
@@ -141,7 +141,7 @@ gains_more table a b d e f first second = record {
       };
 }
 
-pub takes_more : (table : List Declared) (a b : List Pair) (d e f : Draft) → Takes table a d e → Takes table b e f → Takes table (a ++ b) d f
+pub takes_more : (table : List DeclaredFeature) (a b : List Pair) (d e f : Draft) → Takes table a d e → Takes table b e f → Takes table (a ++ b) d f
 takes_more table a b d e f first second = record {
   holding = λ had pairs holds.
       let after = second.holding _ _ (first.holding had pairs holds) in
@@ -167,18 +167,18 @@ next_take xs i x within is = take_more xs i x within ∙ ap (λ y. take i xs ++ 
 pub next_at : {X : Type 0} (xs : List X) (i : ℕ) (x : X) → slice_get xs i ≡ Some x → take (i + 1) xs ≡ take i xs ++ x ∷ []
 next_at xs i x at = next_take xs i x (slice_get_within xs i x at) (sym (get_or_from_slice_get xs i x x at))
 
-pub gains_next : (table : List Declared) (xs : List Pair) (i : ℕ) (x : Pair) (d e f : Draft) → i < length xs → x ≡ get_or xs i x → Gains table (take i xs) d e → Gains table (x ∷ []) e f → Gains table (take (i + 1) xs) d f
+pub gains_next : (table : List DeclaredFeature) (xs : List Pair) (i : ℕ) (x : Pair) (d e f : Draft) → i < length xs → x ≡ get_or xs i x → Gains table (take i xs) d e → Gains table (x ∷ []) e f → Gains table (take (i + 1) xs) d f
 gains_next table xs i x d e f within is first second = subst (λ ps. Gains table ps d f) (sym (next_take xs i x within is)) (gains_more table (take i xs) (x ∷ []) d e f first second)
 
-pub takes_next : (table : List Declared) (xs : List Pair) (i : ℕ) (x : Pair) (d e f : Draft) → i < length xs → x ≡ get_or xs i x → Takes table (take i xs) d e → Takes table (x ∷ []) e f → Takes table (take (i + 1) xs) d f
+pub takes_next : (table : List DeclaredFeature) (xs : List Pair) (i : ℕ) (x : Pair) (d e f : Draft) → i < length xs → x ≡ get_or xs i x → Takes table (take i xs) d e → Takes table (x ∷ []) e f → Takes table (take (i + 1) xs) d f
 takes_next table xs i x d e f within is first second = subst (λ ps. Takes table ps d f) (sym (next_take xs i x within is)) (takes_more table (take i xs) (x ∷ []) d e f first second)
 
-pub components_next : (table : List Declared) (xs : List Pair) (i : ℕ) (x : Pair) → i < length xs → x ≡ get_or xs i x → components table (take (i + 1) xs) ≡ components table (take i xs) ++ parts_in table x
+pub components_next : (table : List DeclaredFeature) (xs : List Pair) (i : ℕ) (x : Pair) → i < length xs → x ≡ get_or xs i x → components table (take (i + 1) xs) ≡ components table (take i xs) ++ parts_in table x
 components_next table xs i x within is =
     ap (components table) (next_take xs i x within is) ∙ flat_map-append (parts_in table) (take i xs) (x ∷ [])
     ∙ ap (λ ps. components table (take i xs) ++ ps) (append-nil (parts_in table x))
 
-pub gains_components : (table : List Declared) (xs : List Pair) (i : ℕ) (x : Pair) (d e f : Draft) → i < length xs → x ≡ get_or xs i x → Gains table (components table (take i xs)) d e → Gains table (parts_in table x) e f → Gains table (components table (take (i + 1) xs)) d f
+pub gains_components : (table : List DeclaredFeature) (xs : List Pair) (i : ℕ) (x : Pair) (d e f : Draft) → i < length xs → x ≡ get_or xs i x → Gains table (components table (take i xs)) d e → Gains table (parts_in table x) e f → Gains table (components table (take (i + 1) xs)) d f
 gains_components table xs i x d e f within is first second = subst (λ ps. Gains table ps d f) (sym (components_next table xs i x within is)) (gains_more table (components table (take i xs)) (parts_in table x) d e f first second)
 
 one_option : {X Y : Type 0} (h : X → Option Y) (x : X) (o : Option Y) → h x ≡ o → filter_map h (x ∷ []) ≡ option_to_list o
@@ -189,5 +189,5 @@ one_option h x (Some y) e = ap (λ o. Rattle.std.specs.List.cons_option o []) e
 pub options_next : {X Y : Type 0} (h : X → Option Y) (xs : List X) (i : ℕ) (x : X) → slice_get xs i ≡ Some x → filter_map h (take (i + 1) xs) ≡ filter_map h (take i xs) ++ option_to_list (h x)
 options_next h xs i x at = ap (filter_map h) (next_at xs i x at) ∙ filter_map-append h (take i xs) (x ∷ []) ∙ ap (λ ys. filter_map h (take i xs) ++ ys) (one_option h x (h x) refl)
 
-pub gains_default : (table : List Declared) (i : ℕ) (x : Declared) (d e f : Draft) → slice_get table i ≡ Some x → Gains table (defaults (take i table)) d e → Gains table (option_to_list (default_pair x)) e f → Gains table (defaults (take (i + 1) table)) d f
+pub gains_default : (table : List DeclaredFeature) (i : ℕ) (x : DeclaredFeature) (d e f : Draft) → slice_get table i ≡ Some x → Gains table (defaults (take i table)) d e → Gains table (option_to_list (default_pair x)) e f → Gains table (defaults (take (i + 1) table)) d f
 gains_default table i x d e f at first second = subst (λ ps. Gains table ps d f) (sym (options_next default_pair table i x at)) (gains_more table (defaults (take i table)) (option_to_list (default_pair x)) d e f first second)

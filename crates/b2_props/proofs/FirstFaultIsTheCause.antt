@@ -12,7 +12,7 @@ use Rattle.std.proofs.lemmas.List.Elements.{All-from_recursion, recursion_from_A
 use Rattle.std.proofs.lemmas.List.Folds.{list_all_at}
 use Rattle.b2_base.specs.Bytes.{HasNoZero}
 use Rattle.b2_base.proofs.NormalMakesNormalForms.{all_parts}
-use Rattle.b2_features.specs.Table.{Declared, is_implicit_in, feature_of, implicit_of}
+use Rattle.b2_features.specs.Table.{DeclaredFeature, is_implicit_in, feature_of, implicit_of}
 use Rattle.b2_props.specs.declared.request_fault.RequestFault.{RequestFault}
 use Rattle.b2_props.specs.declared.request_fault.RequestFault.TheVariants.{UnknownWord, UnknownValue, Conflict, OutOfMemory}
 use Rattle.b2_props.specs.Sets.{Pair}
@@ -83,7 +83,7 @@ all_is p xs false h = sym (list_all_at p xs h.0 [] h.1 (h.2 []))
 -- ---- an implicit value
 
 -- the feature of an implicit value is there
-pub implicit_there : (table : List Declared) (value name : List ℕ) → Some name ≡ implicit_of table value → feature_of table name ≡ None → ⊥
+pub implicit_there : (table : List DeclaredFeature) (value name : List ℕ) → Some name ≡ implicit_of table value → feature_of table name ≡ None → ⊥
 implicit_there [] value name e none = cc
 implicit_there (g ∷ more) value name e none = go (is_implicit_in value g) (bytes_eq name g.name) refl e none (implicit_there more value name)
   where
@@ -92,12 +92,12 @@ implicit_there (g ∷ more) value name e none = go (is_implicit_in value g) (byt
     go false false t e none more' = more' e none
     go true false t e none more' = let same : name ≡ g.name = cc in let bad : true ≡ false = sym (text_itself name) ∙ ap (bytes_eq name) same ∙ t in cc
 
-pub name_of_found : (table : List Declared) (name : List ℕ) (f : Declared) → feature_of table name ≡ Some f → f.name ≡ name
+pub name_of_found : (table : List DeclaredFeature) (name : List ℕ) (f : DeclaredFeature) → feature_of table name ≡ Some f → f.name ≡ name
 name_of_found [] name f e = cc
 name_of_found (g ∷ more) name f e = go (bytes_eq name g.name) refl e (name_of_found more name f)
   where
     go : (b : Bool) → bytes_eq name g.name ≡ b → cond b (Some g) (feature_of more name) ≡ Some f → (feature_of more name ≡ Some f → f.name ≡ name) → f.name ≡ name
-    go true t e more' = let same : g ≡ f = cc in ap (λ (h : Declared). h.name) (sym same) ∙ sym (text_is name g.name t)
+    go true t e more' = let same : g ≡ f = cc in ap (λ (h : DeclaredFeature). h.name) (sym same) ∙ sym (text_is name g.name t)
     go false t e more' = more' e
 
 -- ---- the first fault
@@ -168,7 +168,7 @@ some_cause h g xs i x e l is so_far by = subst (λ o. IsBy o e) (sym (first_of-f
 -- ---- a segment
 
 -- the properties of a segment with an `=`
-pub named_are : (table : List Declared) (segment feature : List ℕ) (values : List (List ℕ)) → words.is_named segment ≡ true → feature ≡ before_first is_equals segment → values ≡ cut 44 (after_first is_equals segment) → map (λ (value : List ℕ). let p : Pair = (feature, value) in p) values ≡ words.segment_pairs table segment
+pub named_are : (table : List DeclaredFeature) (segment feature : List ℕ) (values : List (List ℕ)) → words.is_named segment ≡ true → feature ≡ before_first is_equals segment → values ≡ cut 44 (after_first is_equals segment) → map (λ (value : List ℕ). let p : Pair = (feature, value) in p) values ≡ words.segment_pairs table segment
 named_are table segment feature values named first after =
     ap₂ (λ (f : List ℕ) (vs : List (List ℕ)). map (λ (value : List ℕ). let p : Pair = (f, value) in p) vs) first after
     ∙ sym (ap (λ b. cond b (words.named_pairs segment) (filter_map (words.implicit_pair table) (cut 44 segment))) named)

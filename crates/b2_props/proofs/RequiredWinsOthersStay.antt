@@ -8,7 +8,7 @@ use Rattle.std.proofs.lemmas.List.{reverse-append}
 use Rattle.std.proofs.lemmas.List.Elements.{filter-append}
 use Rattle.b2_features.specs.declared.attribute.Attribute.TheVariants.{Free, Optional}
 use Rattle.b2_features.specs.Attributes.{has}
-use Rattle.b2_features.specs.Table.{Declared, HasDistinctNames, is_whole, feature_of, default_value}
+use Rattle.b2_features.specs.Table.{DeclaredFeature, HasDistinctNames, is_whole, feature_of, default_value}
 use Rattle.b2_features.specs.Faults.{is_with}
 use Rattle.b2_features.proofs.TablesFindWhatWasAdded.{none_of}
 use Rattle.b2_props.specs.Sets.{Pair, same, value_of, firsts, free_of, written, IsSet}
@@ -65,13 +65,13 @@ or_true false b e = cc
 -- ---- what is brought
 
 -- a required pair brings nothing of a single feature that is taken
-brought_none : (table : List Declared) (taken : List Pair) (p : Pair) (q : List ℕ) → is_with Free table q ≡ false → names taken q ≡ true → value_of (brought table taken p) q ≡ None
+brought_none : (table : List DeclaredFeature) (taken : List Pair) (p : Pair) (q : List ℕ) → is_with Free table q ≡ false → names taken q ≡ true → value_of (brought table taken p) q ≡ None
 brought_none table taken p q single known =
     value_of-filter (λ feature. is_with Free table feature || not (names taken feature)) (parts_in table p) q
     ∙ ap₂ (λ (a b : Bool). cond (a || not b) (value_of (parts_in table p) q) None) single known
 
 -- the last value of what is completed is the last required one, of a feature that is taken
-last_completed : (table : List Declared) (taken required : List Pair) (q : List ℕ) → is_with Free table q ≡ false → names taken q ≡ true → last_of (completed_from table taken required) q ≡ last_of required q
+last_completed : (table : List DeclaredFeature) (taken required : List Pair) (q : List ℕ) → is_with Free table q ≡ false → names taken q ≡ true → last_of (completed_from table taken required) q ≡ last_of required q
 last_completed table taken [] q single known = refl
 last_completed table taken (p ∷ more) q single known =
     last_of-cons p (brought table taken p ++ rest) q
@@ -87,7 +87,7 @@ last_completed table taken (p ∷ more) q single known =
     rest = completed_from table (taken ++ parts_in table p) more
 
 -- what is completed gives no value that neither the list nor its composites give
-none_completed : (table : List Declared) (taken required : List Pair) (q : List ℕ) → names required q ≡ false → names (components table required) q ≡ false → last_of (completed_from table taken required) q ≡ None
+none_completed : (table : List DeclaredFeature) (taken required : List Pair) (q : List ℕ) → names required q ≡ false → names (components table required) q ≡ false → last_of (completed_from table taken required) q ≡ None
 none_completed table taken [] q unnamed apart = refl
 none_completed table taken (p ∷ more) q unnamed apart =
     last_of-cons p (brought table taken p ++ rest) q
@@ -123,20 +123,20 @@ not_false true e = cc
 not_false false e = refl
 
 -- a written list has the value of each single feature
-pub single_value : (table : List Declared) (v : List ℕ → Option (List ℕ)) (pairs : List Pair) → HasDistinctNames table → (q : List ℕ) → is_single table q ≡ true → value_of (written table v (firsts (free_of table pairs))) q ≡ v q
+pub single_value : (table : List DeclaredFeature) (v : List ℕ → Option (List ℕ)) (pairs : List Pair) → HasDistinctNames table → (q : List ℕ) → is_single table q ≡ true → value_of (written table v (firsts (free_of table pairs))) q ≡ v q
 single_value table v pairs distinct q single = go (feature_of table q) refl single
   where
-    go : (o : Option Declared) → feature_of table q ≡ o → option_map_or (λ f. not (has Free f.attributes)) o false ≡ true → value_of (written table v (firsts (free_of table pairs))) q ≡ v q
+    go : (o : Option DeclaredFeature) → feature_of table q ≡ o → option_map_or (λ f. not (has Free f.attributes)) o false ≡ true → value_of (written table v (firsts (free_of table pairs))) q ≡ v q
     go None found e = cc
     go (Some f) found e =
         let same : f.name ≡ q = name_of_found table q f found in
         subst (λ n. value_of (written table v (firsts (free_of table pairs))) n ≡ v n) same
         (value_written table v (firsts (free_of table pairs)) distinct (once_free table pairs) f (ap (feature_of table) same ∙ found) (not_false (has Free f.attributes) e))
 
-not_free : (table : List Declared) (q : List ℕ) → is_single table q ≡ true → is_with Free table q ≡ false
+not_free : (table : List DeclaredFeature) (q : List ℕ) → is_single table q ≡ true → is_with Free table q ≡ false
 not_free table q single = go (feature_of table q) single
   where
-    go : (o : Option Declared) → option_map_or (λ f. not (has Free f.attributes)) o false ≡ true → option_map_or (λ f. has Free f.attributes) o false ≡ false
+    go : (o : Option DeclaredFeature) → option_map_or (λ f. not (has Free f.attributes)) o false ≡ true → option_map_or (λ f. has Free f.attributes) o false ≡ false
     go None e = cc
     go (Some f) e = not_false (has Free f.attributes) e
 
@@ -146,18 +146,18 @@ or_some (Some x) p e = refl
 
 -- ---- the laws
 
-pub refined_required : (table : List Declared) (set required : List Pair) → HasDistinctNames table → HasRequired table required (refined table set required)
+pub refined_required : (table : List DeclaredFeature) (set required : List Pair) → HasDistinctNames table → HasRequired table required (refined table set required)
 refined_required table set required distinct = λ q single named.
     single_value table (λ feature. option_or (last_of (completed table required) feature) (value_of set feature)) (set ++ completed table required) distinct q single
     ∙ ap (λ o. option_or o (value_of set q)) (last_completed table required required q (not_free table q single) named)
     ∙ or_some (last_of required q) (value_of set q) (last_of_some required q named)
 
-pub refined_others : (table : List Declared) (set required : List Pair) → HasDistinctNames table → KeepsOthers table set required (refined table set required)
+pub refined_others : (table : List DeclaredFeature) (set required : List Pair) → HasDistinctNames table → KeepsOthers table set required (refined table set required)
 refined_others table set required distinct = λ q single unnamed apart.
     single_value table (λ feature. option_or (last_of (completed table required) feature) (value_of set feature)) (set ++ completed table required) distinct q single
     ∙ ap (λ o. option_or o (value_of set q)) (none_completed table required required q unnamed apart)
 
-pub expanded_values : (table : List Declared) (set : List Pair) → HasDistinctNames table → KeepsValues table set (expanded table set)
+pub expanded_values : (table : List DeclaredFeature) (set : List Pair) → HasDistinctNames table → KeepsValues table set (expanded table set)
 expanded_values table set distinct = λ q single named.
     single_value table (value_of whole) whole distinct q single ∙ value_of-append (set ++ components table set) (defaults table) q
     ∙ ap (λ o. option_or o (value_of (defaults table) q)) (value_of-append set (components table set) q ∙ or_some (value_of set q) (value_of (components table set) q) named)
@@ -167,7 +167,7 @@ expanded_values table set distinct = λ q single named.
     whole = set ++ components table set ++ defaults table
 
 -- a feature with a default is among the defaults
-default_there : (table : List Declared) (f : Declared) → feature_of table f.name ≡ Some f → is_some (default_value f) ≡ true → names (defaults table) f.name ≡ true
+default_there : (table : List DeclaredFeature) (f : DeclaredFeature) → feature_of table f.name ≡ Some f → is_some (default_value f) ≡ true → names (defaults table) f.name ≡ true
 default_there [] f found has_one = cc
 default_there (g ∷ more) f found has_one = go (bytes_eq f.name g.name) refl found (default_there more f)
   where
@@ -187,7 +187,7 @@ default_there (g ∷ more) f found has_one = go (bytes_eq f.name g.name) refl fo
     go false t e later = skip (default_value g) t (later e has_one)
 
 -- in a whole table a feature that is neither free nor optional has a default
-default_of_found : (table : List Declared) → list_all is_whole table ≡ true → (q : List ℕ) (f : Declared) → feature_of table q ≡ Some f → has Free f.attributes ≡ false → has Optional f.attributes ≡ false → is_some (default_value f) ≡ true
+default_of_found : (table : List DeclaredFeature) → list_all is_whole table ≡ true → (q : List ℕ) (f : DeclaredFeature) → feature_of table q ≡ Some f → has Free f.attributes ≡ false → has Optional f.attributes ≡ false → is_some (default_value f) ≡ true
 default_of_found [] whole q f found free optional = cc
 default_of_found (g ∷ more) whole q f found free optional = go (is_whole g) (bytes_eq q g.name) refl whole found (λ rest later. default_of_found more rest q f later free optional)
   where
@@ -201,7 +201,7 @@ default_of_found (g ∷ more) whole q f found free optional = go (is_whole g) (b
     go true true e w h later = let is : g ≡ f = cc in own (ap is_whole (sym is) ∙ e)
     go true false e w h later = later w h
 
-pub expanded_all : (table : List Declared) (set : List Pair) → HasDistinctNames table → list_all is_whole table ≡ true → HasAllValues table (expanded table set)
+pub expanded_all : (table : List DeclaredFeature) (set : List Pair) → HasDistinctNames table → list_all is_whole table ≡ true → HasAllValues table (expanded table set)
 expanded_all table set distinct all_whole = λ f found free optional.
     ap is_some (single_value table (value_of whole) whole distinct f.name (ap (λ o. option_map_or (λ g. not (has Free g.attributes)) o false) found ∙ ap not free))
     ∙ names-append (set ++ components table set) (defaults table) f.name
@@ -245,19 +245,19 @@ firsts-append (x ∷ xs) ys =
     ∙ ap (λ zs. x ∷ filter (λ q. not (same x q)) (firsts xs) ++ zs) (filter_neither (same x) (is_among xs) (firsts ys))
 
 -- the free pairs of a set stand once
-free_once : (table : List Declared) (set : List Pair) → HasDistinctNames table → IsSet table set → firsts (free_of table set) ≡ free_of table set
+free_once : (table : List DeclaredFeature) (set : List Pair) → HasDistinctNames table → IsSet table set → firsts (free_of table set) ≡ free_of table set
 free_once table set distinct is = sym (free_written table (value_of set) (firsts (free_of table set)) distinct (once_free table set)) ∙ ap (free_of table) is
 
-pub written_free : (table : List Declared) (v : List ℕ → Option (List ℕ)) (set more : List Pair) → HasDistinctNames table → IsSet table set → KeepsFree table set more (written table v (firsts (free_of table (set ++ more))))
+pub written_free : (table : List DeclaredFeature) (v : List ℕ → Option (List ℕ)) (set more : List Pair) → HasDistinctNames table → IsSet table set → KeepsFree table set more (written table v (firsts (free_of table (set ++ more))))
 written_free table v set more distinct is =
     free_written table v (firsts (free_of table (set ++ more))) distinct (once_free table (set ++ more))
     ∙ ap firsts (filter-append (λ p. is_with Free table p.0) set more) ∙ firsts-append (free_of table set) (free_of table more)
     ∙ ap (λ (ps : List Pair). ps ++ filter (λ p. not (is_among (free_of table set) p)) (firsts (free_of table more))) (free_once table set distinct is)
 
-pub refined_free : (table : List Declared) (set required : List Pair) → HasDistinctNames table → IsSet table set → KeepsFree table set (completed table required) (refined table set required)
+pub refined_free : (table : List DeclaredFeature) (set required : List Pair) → HasDistinctNames table → IsSet table set → KeepsFree table set (completed table required) (refined table set required)
 refined_free table set required distinct is = written_free table (λ feature. option_or (last_of (completed table required) feature) (value_of set feature)) set (completed table required) distinct is
 
-pub expanded_free : (table : List Declared) (set : List Pair) → HasDistinctNames table → IsSet table set → KeepsFree table set (components table set ++ defaults table) (expanded table set)
+pub expanded_free : (table : List DeclaredFeature) (set : List Pair) → HasDistinctNames table → IsSet table set → KeepsFree table set (components table set ++ defaults table) (expanded table set)
 expanded_free table set distinct is =
     subst (λ whole. KeepsFree table set (components table set ++ defaults table) (written table (value_of whole) (firsts (free_of table whole)))) (sym (append_assoc set (components table set) (defaults table)))
     (written_free table (value_of (set ++ (components table set ++ defaults table))) set (components table set ++ defaults table) distinct is)
@@ -269,6 +269,6 @@ pub if_both : {T E : Type 0} (r : Result T E) {P : Type 0} {Q R : T → Type 0} 
 if_both (Ok made) p q f = f made p q
 if_both (Err e) p q f = tt
 
-pub if_three : {T E : Type 0} (r : Result T E) {P S : Type 0} {Q R : T → Type 0} → OnOk r P → OnOk r S → IfOk r Q → ((made : T) → P → S → Q made → R made) → IfOk r R
-if_three (Ok made) p s q f = f made p s q
-if_three (Err e) p s q f = tt
+pub if_all_told : {T E : Type 0} (r : Result T E) {P S : Type 0} {Q R : T → Type 0} → OnOk r P → OnOk r S → IfOk r Q → ((made : T) → P → S → Q made → R made) → IfOk r R
+if_all_told (Ok made) p s q f = f made p s q
+if_all_told (Err e) p s q f = tt

@@ -11,7 +11,7 @@ use Rattle.std.proofs.lemmas.List.Concat.{flat_map-append, flat_map_single}
 use Rattle.std.proofs.lemmas.List.Elements.{filter-append}
 use Rattle.b2_features.specs.Attributes.{has}
 use Rattle.b2_features.proofs.NewValuesKeepAllApart.{get_put}
-use Rattle.b2_props.specs.declared.choice.Choice.{Choice}
+use Rattle.b2_props.specs.declared.word_choice.WordChoice.{WordChoice}
 use Rattle.b2_props.specs.declared.clashes.Clashes.{Clashes}
 use Rattle.b2_props.specs.Requests.{product, choices_at, differing}
 use Rattle.b2_props.specs.Meeting.{first_value, other_word, Meets, HasChoice}
@@ -46,14 +46,14 @@ product-push {X} (xs ∷ more) ys =
 
 -- ---- choices of a feature
 
-choices_at-push : (choices : List Choice) (c : Choice) (q : List ℕ) → choices_at (choices ++ c ∷ []) q ≡ choices_at choices q ++ cond (bytes_eq q c.pair.0) (c ∷ []) []
+choices_at-push : (choices : List WordChoice) (c : WordChoice) (q : List ℕ) → choices_at (choices ++ c ∷ []) q ≡ choices_at choices q ++ cond (bytes_eq q c.pair.0) (c ∷ []) []
 choices_at-push choices c q = filter-append (λ d. bytes_eq q d.pair.0) choices (c ∷ [])
 
-first-push : (xs : List Choice) (c : Choice) → first_value (xs ++ c ∷ []) ≡ option_or (first_value xs) (Some c.pair.1)
+first-push : (xs : List WordChoice) (c : WordChoice) → first_value (xs ++ c ∷ []) ≡ option_or (first_value xs) (Some c.pair.1)
 first-push [] c = refl
 first-push (x ∷ xs) c = refl
 
-find-push : (t : Choice → Bool) (xs : List Choice) (c : Choice) → option_map (λ d. d.word) (find t (xs ++ c ∷ [])) ≡ option_or (option_map (λ d. d.word) (find t xs)) (cond (t c) (Some c.word) None)
+find-push : (t : WordChoice → Bool) (xs : List WordChoice) (c : WordChoice) → option_map (λ d. d.word) (find t (xs ++ c ∷ [])) ≡ option_or (option_map (λ d. d.word) (find t xs)) (cond (t c) (Some c.word) None)
 find-push t [] c = go (t c)
   where
     go : (b : Bool) → option_map (λ d. d.word) (cond b (Some c) None) ≡ cond b (Some c.word) None
@@ -67,12 +67,12 @@ find-push t (x ∷ xs) c = go (t x) (find-push t xs c)
     go false e = e
 
 -- one more choice of a feature
-differing-push : (xs : List Choice) (c : Choice) → differing (xs ++ c ∷ []) ≡ option_or (differing xs) (other_word c (first_value xs))
+differing-push : (xs : List WordChoice) (c : WordChoice) → differing (xs ++ c ∷ []) ≡ option_or (differing xs) (other_word c (first_value xs))
 differing-push [] c = refl
 differing-push (x ∷ xs) c = find-push (λ d. not (bytes_eq d.pair.1 x.pair.1)) xs c
 
 -- one more choice
-pub meets_more : (choices : List Choice) (c : Choice) (old new : Clashes) → Meets choices old → HasChoice c old new → Meets (choices ++ c ∷ []) new
+pub meets_more : (choices : List WordChoice) (c : WordChoice) (old new : Clashes) → Meets choices old → HasChoice c old new → Meets (choices ++ c ∷ []) new
 meets_more choices c old new meets has = record {
   values = λ q. has.values q ∙ value q (bytes_eq q c.pair.0) refl ∙ sym (ap first_value (choices_at-push choices c q));
   words = λ q. has.words q ∙ word q (bytes_eq q c.pair.0) refl ∙ sym (ap differing (choices_at-push choices c q));
@@ -88,7 +88,7 @@ meets_more choices c old new meets has = record {
         ∙ ap₂ (λ (o : Option ℕ) (v : Option (List ℕ)). option_or o (other_word c v)) (meets.words q) (meets.values q) ∙ sym (differing-push (choices_at choices q) c)
     word q false e = meets.words q ∙ sym (ap differing (append-nil (choices_at choices q)))
 
-pub meets_next : (choices : List Choice) (i : ℕ) (c : Choice) (old new : Clashes) → i < length choices → c ≡ get_or choices i c → Meets (take i choices) old → HasChoice c old new → Meets (take (i + 1) choices) new
+pub meets_next : (choices : List WordChoice) (i : ℕ) (c : WordChoice) (old new : Clashes) → i < length choices → c ≡ get_or choices i c → Meets (take i choices) old → HasChoice c old new → Meets (take (i + 1) choices) new
 meets_next choices i c old new l is meets has = subst (λ cs. Meets cs new) (sym (next_take choices i c l is)) (meets_more (take i choices) c old new meets has)
 
 -- ---- one choice more
@@ -109,7 +109,7 @@ put_there : {V : Type 0} (m : FinMap (slice_cmp nat_cmp) V) (f : List ℕ) (v : 
 put_there m f v o e q = get_put m f v q ∙ ap (λ p. cond (bytes_eq q f) p (get m q)) (sym e)
 
 -- the first value of a feature
-pub has_first : (c : Choice) (old new : Clashes) → get old.values c.pair.0 ≡ None → new.values ≡ insert old.values c.pair.0 c.pair.1 → new.words ≡ old.words → HasChoice c old new
+pub has_first : (c : WordChoice) (old new : Clashes) → get old.values c.pair.0 ≡ None → new.values ≡ insert old.values c.pair.0 c.pair.1 → new.words ≡ old.words → HasChoice c old new
 has_first c old new none put same = record {
   values = λ q. ap (λ m. get m q) put ∙ put_there old.values c.pair.0 c.pair.1 (option_or (get old.values c.pair.0) (Some c.pair.1)) (ap (λ o. option_or o (Some c.pair.1)) none) q;
   words = λ q.
@@ -118,7 +118,7 @@ has_first c old new none put same = record {
 }
 
 -- the first word that differs
-pub has_mark : (c : Choice) (old new : Clashes) → option_map (λ v. not (bytes_eq c.pair.1 v)) (get old.values c.pair.0) ≡ Some true → get old.words c.pair.0 ≡ None → new.values ≡ old.values → new.words ≡ insert old.words c.pair.0 c.word → HasChoice c old new
+pub has_mark : (c : WordChoice) (old new : Clashes) → option_map (λ v. not (bytes_eq c.pair.1 v)) (get old.values c.pair.0) ≡ Some true → get old.words c.pair.0 ≡ None → new.values ≡ old.values → new.words ≡ insert old.words c.pair.0 c.word → HasChoice c old new
 has_mark c old new differs none same put =
     let (v, there, other) = mapped (λ v. not (bytes_eq c.pair.1 v)) (get old.values c.pair.0) true differs in
     record {

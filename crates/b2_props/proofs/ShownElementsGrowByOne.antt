@@ -6,7 +6,7 @@ use Rattle.std.proofs.lemmas.List.{map-append, length-take}
 use Rattle.std.proofs.lemmas.List.Elements.{filter-append, All-push, All-append}
 use Rattle.b2_base.specs.Bytes.{HasNoZero}
 use Rattle.b2_features.specs.declared.attribute.Attribute.TheVariants.{Free}
-use Rattle.b2_features.specs.Table.{Declared, default_of}
+use Rattle.b2_features.specs.Table.{DeclaredFeature, default_of}
 use Rattle.b2_features.specs.Faults.{is_with}
 use Rattle.b2_props.specs.Sets.{Pair, value_of}
 use Rattle.b2_props.specs.Refinement.{components}
@@ -14,7 +14,7 @@ use Rattle.b2_props.specs.Elements.{shows_beside, shows, element}
 use Rattle.b2_props.proofs.DraftHoldsEachGainedPair.{next_take}
 
 -- what the composites give need be known of features alone that are not free
-pub shows_given : (table : List Declared) (set : List Pair) (x : Pair) (o : Option (List ℕ)) → (is_with Free table x.0 ≡ false → o ≡ value_of (components table set) x.0) → shows_beside table (option_or o (default_of table x.0)) x ≡ shows table set x
+pub shows_given : (table : List DeclaredFeature) (set : List Pair) (x : Pair) (o : Option (List ℕ)) → (is_with Free table x.0 ≡ false → o ≡ value_of (components table set) x.0) → shows_beside table (option_or o (default_of table x.0)) x ≡ shows table set x
 shows_given table set x o agree = go (is_with Free table x.0) refl
   where
     hidden : (u : Option (List ℕ)) → is_with Free table x.0 ≡ true → shows_beside table u x ≡ false
@@ -25,7 +25,7 @@ shows_given table set x o agree = go (is_with Free table x.0) refl
     go false e = ap (λ u. shows_beside table (option_or u (default_of table x.0)) x) (agree e)
 
 -- one more pair
-pub elements_next : (table : List Declared) (set : List Pair) (i : ℕ) (x : Pair) (b : Bool) → i < length set → x ≡ get_or set i x → shows table set x ≡ b
+pub elements_next : (table : List DeclaredFeature) (set : List Pair) (i : ℕ) (x : Pair) (b : Bool) → i < length set → x ≡ get_or set i x → shows table set x ≡ b
     → map (element table) (filter (shows table set) (take (i + 1) set)) ≡ map (element table) (filter (shows table set) (take i set)) ++ cond b (element table x ∷ []) []
 elements_next table set i x b within is e =
     ap (λ ps. map (element table) (filter (shows table set) ps)) (next_take set i x within is)

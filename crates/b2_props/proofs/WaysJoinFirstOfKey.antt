@@ -5,8 +5,8 @@ use Rattle.std.specs.FinMap.{get, insert}
 use Rattle.std.specs.Option.{option_map, option_or}
 use Rattle.std.specs.Str.{bytes_eq}
 use Rattle.b2_features.proofs.NewValuesKeepAllApart.{get_put}
-use Rattle.b2_props.specs.declared.choice.Choice.{Choice}
-use Rattle.b2_props.specs.declared.choice.Factor.{Factor}
+use Rattle.b2_props.specs.declared.word_choice.WordChoice.{WordChoice}
+use Rattle.b2_props.specs.declared.word_choice.Factor.{Factor}
 use Rattle.b2_props.specs.declared.ways.WayList.{WayList}
 use Rattle.b2_props.specs.Requests.{Ways, is_key, joined}
 use Rattle.b2_props.specs.Ways.{ways_of, ways_in, place_of, longer_at, IsPlaced}
@@ -56,7 +56,7 @@ joined_at (v ∷ more) w i at = go (is_key v.key w.key) (place_of w.key more) re
 
 -- ---- what keeps places
 
-place_longer : (key : Option (List ℕ)) (i : ℕ) (more : List Choice) (vs : List Ways) → place_of key (longer_at i more vs) ≡ place_of key vs
+place_longer : (key : Option (List ℕ)) (i : ℕ) (more : List WordChoice) (vs : List Ways) → place_of key (longer_at i more vs) ≡ place_of key vs
 place_longer key i more [] = refl
 place_longer key zero more (v ∷ vs) = refl
 place_longer key (suc i) more (v ∷ vs) = ap (λ o. cond (is_key v.key key) (Some 0) (option_map (λ n. suc n) o)) (place_longer key i more vs)
@@ -78,14 +78,14 @@ place_push key (v ∷ vs) w = ap (λ o. cond (is_key v.key key) (Some 0) (option
 -- ---- the list of factors
 
 -- one factor is longer
-pub longer_set : (fs : List Factor) (i : ℕ) (f made : Factor) (more : List Choice) → i < length fs → f ≡ get_or fs i f → made.key ≡ f.key → made.choices.items ≡ f.choices.items ++ more → map ways_of (set fs i made) ≡ longer_at i more (map ways_of fs)
+pub longer_set : (fs : List Factor) (i : ℕ) (f made : Factor) (more : List WordChoice) → i < length fs → f ≡ get_or fs i f → made.key ≡ f.key → made.choices.items ≡ f.choices.items ++ more → map ways_of (set fs i made) ≡ longer_at i more (map ways_of fs)
 longer_set [] i f made more l is keys choices = absurd (omega (arith, l))
 longer_set (z ∷ zs) zero f made more l is keys choices =
-    ap₂ (λ (k : Option (List ℕ)) (cs : List Choice). let w : Ways = record { key = k; choices = cs } in w ∷ map ways_of zs) (keys ∙ ap (λ (g : Factor). g.key) is) (choices ∙ ap (λ (g : Factor). g.choices.items ++ more) is)
+    ap₂ (λ (k : Option (List ℕ)) (cs : List WordChoice). let w : Ways = record { key = k; choices = cs } in w ∷ map ways_of zs) (keys ∙ ap (λ (g : Factor). g.key) is) (choices ∙ ap (λ (g : Factor). g.choices.items ++ more) is)
 longer_set (z ∷ zs) (suc i) f made more l is keys choices = ap (λ ws. ways_of z ∷ ws) (longer_set zs i f made more (omega (arith, l)) is keys choices)
 
 -- places stay where one factor is longer
-pub placed_longer : (old : WayList) (i : ℕ) (more : List Choice) (news : List Ways) → news ≡ longer_at i more (ways_in old) → IsPlaced old → (q : List ℕ) → get old.places q ≡ place_of (Some q) news
+pub placed_longer : (old : WayList) (i : ℕ) (more : List WordChoice) (news : List Ways) → news ≡ longer_at i more (ways_in old) → IsPlaced old → (q : List ℕ) → get old.places q ≡ place_of (Some q) news
 placed_longer old i more news is placed q = placed.places q ∙ sym (ap (place_of (Some q)) is ∙ place_longer (Some q) i more (ways_in old))
 
 -- one factor more, which has no key

@@ -7,7 +7,7 @@ use Rattle.std.specs.BTreeSet.{contains}
 use Rattle.std.specs.FinMap as map
 use Rattle.std.specs.declared.cmp.Ordering.{Ordering}
 use Rattle.b2_features.specs.declared.attribute.Attribute.TheVariants.{Free}
-use Rattle.b2_features.specs.Table.{Declared}
+use Rattle.b2_features.specs.Table.{DeclaredFeature}
 use Rattle.b2_features.specs.Faults.{is_with}
 use Rattle.b2_props.specs.declared.draft.Draft.{Draft}
 use Rattle.b2_props.specs.Sets.{Pair, same, value_of, firsts, free_of}
@@ -17,17 +17,17 @@ abbrev pub pair_cmp : Pair → Pair → Ordering
 pair_cmp p q = ordering_then (slice_cmp nat_cmp p.0 q.0) (slice_cmp nat_cmp p.1 q.1)
 
 -- a draft has these values of the features that are not free, and of these pairs the free ones
-pub record Holds (table : List Declared) (had : List ℕ → Option (List ℕ)) (pairs : List Pair) (draft : Draft) : Type 0 where
+pub record Holds (table : List DeclaredFeature) (had : List ℕ → Option (List ℕ)) (pairs : List Pair) (draft : Draft) : Type 0 where
   pub values : (feature : List ℕ) → is_with Free table feature ≡ false → map.get draft.values feature ≡ had feature
   pub free : draft.free.items ≡ firsts (free_of table pairs)
   pub known : (pair : Pair) → contains pair_cmp draft.known pair ≡ list_any (same pair) (free_of table pairs)
 
 -- a draft has more pairs than before, and a value that was there stays
-pub record Gains (table : List Declared) (more : List Pair) (old new : Draft) : Type 0 where
+pub record Gains (table : List DeclaredFeature) (more : List Pair) (old new : Draft) : Type 0 where
   pub holding : (had : List ℕ → Option (List ℕ)) (pairs : List Pair) → Holds table had pairs old → Holds table (λ feature. option_or (had feature) (value_of more feature)) (pairs ++ more) new
 
 -- a draft has more pairs than before, and the last value counts
-pub record Takes (table : List Declared) (more : List Pair) (old new : Draft) : Type 0 where
+pub record Takes (table : List DeclaredFeature) (more : List Pair) (old new : Draft) : Type 0 where
   pub holding : (had : List ℕ → Option (List ℕ)) (pairs : List Pair) → Holds table had pairs old → Holds table (λ feature. option_or (value_of (reverse more) feature) (had feature)) (pairs ++ more) new
 
 -- a draft has one free pair more, unless it was there

@@ -1,7 +1,7 @@
 use Rattle.std.specs.Prelude.{◌≡◌, List, [], ◌∷◌, ◌++◌, ℕ, zero, suc, Option, Some, None, option_map, map, if◌then◌else◌}
 use Rattle.std.specs.FinMap as map
-use Rattle.b2_props.specs.declared.choice.Choice.{Choice}
-use Rattle.b2_props.specs.declared.choice.Factor.{Factor}
+use Rattle.b2_props.specs.declared.word_choice.WordChoice.{WordChoice}
+use Rattle.b2_props.specs.declared.word_choice.Factor.{Factor}
 use Rattle.b2_props.specs.declared.ways.WayList.{WayList}
 use Rattle.b2_props.specs.Requests.{Ways, is_key}
 
@@ -23,7 +23,7 @@ pub record IsPlaced (list : WayList) : Type 0 where
   pub places : (feature : List ℕ) → map.get list.places feature ≡ place_of (Some feature) (ways_in list)
 
 -- some choices more at a place
-abbrev pub longer_at : ℕ → List Choice → List Ways → List Ways
+abbrev pub longer_at : ℕ → List WordChoice → List Ways → List Ways
 longer_at place more [] = []
 longer_at zero more (w ∷ ws) = record w { choices = w.choices ++ more } ∷ ws
 longer_at (suc place) more (w ∷ ws) = w ∷ longer_at place more ws

@@ -4,12 +4,12 @@ ghost use Rattle.std.specs.FinMap as map;
 ghost use Rattle.std.specs.Str.{bytes_eq};
 ghost use Rattle.b2_features.specs.Table.{seen};
 ghost use Rattle.b2_props.specs.Requests.{brought, feature_clash, row_clash};
-ghost use Rattle.b2_props.specs.declared.choice.Choice.{Choice};
+ghost use Rattle.b2_props.specs.declared.word_choice.WordChoice.{WordChoice};
 ghost use Rattle.b2_props.specs.Meeting.{Meets, HasChoice};
 
-use crate::choice::Choice;
 use crate::lookups::parts_in;
 use crate::ways::choices_of;
+use crate::word_choice::WordChoice;
 use b2_base::fault::OutOfMemory;
 use b2_base::text::Text;
 use b2_base::text_map::TextMap;
@@ -44,7 +44,7 @@ impl Clashes {
     }
 
     /// Whether the value of a choice is another than the first one of its feature.
-    fn differs(&self, choice: &Choice) -> Option<bool>
+    fn differs(&self, choice: &WordChoice) -> Option<bool>
         ensures { result ≡ option_map (λ v. not (bytes_eq choice.now.pair.1 v)) (map.get self.now.values choice.now.pair.0) }
     {
         match self.values.get(&choice.pair.0) {
@@ -53,7 +53,7 @@ impl Clashes {
         }
     }
 
-    fn begin(&mut self, choice: &Choice) -> Result<(), OutOfMemory>
+    fn begin(&mut self, choice: &WordChoice) -> Result<(), OutOfMemory>
         requires { map.get self.old.values choice.now.pair.0 ≡ None }
         ensures { OnOk result (HasChoice choice.now self.old self.new) }
     {
@@ -63,7 +63,7 @@ impl Clashes {
         Ok(())
     }
 
-    fn mark(&mut self, choice: &Choice) -> Result<(), OutOfMemory>
+    fn mark(&mut self, choice: &WordChoice) -> Result<(), OutOfMemory>
         requires { option_map (λ v. not (bytes_eq choice.now.pair.1 v)) (map.get self.old.values choice.now.pair.0) ≡ Some true }
         ensures { OnOk result (HasChoice choice.now self.old self.new) }
     {
@@ -76,7 +76,7 @@ impl Clashes {
         }
     }
 
-    fn add(&mut self, choice: &Choice) -> Result<(), OutOfMemory>
+    fn add(&mut self, choice: &WordChoice) -> Result<(), OutOfMemory>
         ensures { OnOk result (HasChoice choice.now self.old self.new) }
     {
         match self.differs(choice) {
@@ -90,7 +90,7 @@ impl Clashes {
         }
     }
 
-    fn of(alloc: Global, choices: &[Choice]) -> Result<Clashes, OutOfMemory>
+    fn of(alloc: Global, choices: &[WordChoice]) -> Result<Clashes, OutOfMemory>
         ensures { IfOk result (λ made. Meets choices.now made) }
     {
         let mut made = Clashes::new(alloc);
@@ -102,7 +102,11 @@ impl Clashes {
 }
 
 /// The components that some choices bring, each with the word of its composite.
-fn brought(alloc: Global, registry: &Registry, row: &[Choice]) -> Result<Vec<Choice>, OutOfMemory>
+fn brought(
+    alloc: Global,
+    registry: &Registry,
+    row: &[WordChoice],
+) -> Result<Vec<WordChoice>, OutOfMemory>
     ensures { IfOk result (λ made. made.items ≡ brought registry.now row.now) }
 {
     let mut made = Vec::new(alloc);
@@ -114,7 +118,7 @@ fn brought(alloc: Global, registry: &Registry, row: &[Choice]) -> Result<Vec<Cho
 }
 
 fn feature_clash(explicit: &Clashes, parts: &Clashes, feature: &Feature) -> Option<usize>
-    ensures { (row more : List Choice) → Meets row explicit.now → Meets more parts.now → result ≡ feature_clash row more (seen feature.now) }
+    ensures { (row more : List WordChoice) → Meets row explicit.now → Meets more parts.now → result ≡ feature_clash row more (seen feature.now) }
 {
     if feature.is(Attribute::Free) {
         return None;
@@ -129,7 +133,7 @@ fn feature_clash(explicit: &Clashes, parts: &Clashes, feature: &Feature) -> Opti
 pub(crate) fn row_clash(
     alloc: Global,
     registry: &Registry,
-    row: &[Choice],
+    row: &[WordChoice],
 ) -> Result<Option<usize>, OutOfMemory>
     ensures { IfOk result (λ clash. clash ≡ row_clash registry.now row.now) }
 {

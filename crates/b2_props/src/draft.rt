@@ -3,7 +3,7 @@ ghost use Rattle.std.specs.Prelude.{◌≡◌, ℕ, true, List, [], ◌∷◌, N
 ghost use Rattle.std.specs.Option.{option_copied, option_to_list};
 ghost use Rattle.std.specs.List.{filter_map, list_all};
 ghost use Rattle.std.specs.FinMap as map;
-ghost use Rattle.b2_features.specs.Table.{Declared, HasDistinctNames, is_whole, seen};
+ghost use Rattle.b2_features.specs.Table.{DeclaredFeature, HasDistinctNames, is_whole, seen};
 ghost use Rattle.b2_features.specs.Faults.{is_with};
 ghost use Rattle.b2_props.specs.Sets.{Pair, firsts, free_of, pair_of, written};
 ghost use Rattle.b2_props.specs.Refinement.{components, default_pair, defaults};
@@ -45,7 +45,7 @@ impl Drop for Draft {
 impl Draft {
     /// Nothing yet; takes no memory.
     pub(crate) fn new(alloc: Global) -> Draft
-        ensures { (table : List Declared) → Holds table (λ _. None) [] result }
+        ensures { (table : List DeclaredFeature) → Holds table (λ _. None) [] result }
     {
         Draft {
             values: TextMap::new(alloc),

@@ -5,14 +5,13 @@
 //! - Sets of properties and requests are exact, and so is each fault, with its word.
 #![tactic(auto)]
 
-mod choice;
 mod clashes;
 mod draft;
 pub mod elements;
 pub mod laws;
 pub mod lookups;
 pub mod membership;
-mod numbered;
+mod numbered_pairs;
 pub mod pair_index;
 pub mod pair_list;
 mod product;
@@ -23,4 +22,5 @@ pub mod request;
 pub mod request_fault;
 pub mod requirement;
 mod ways;
+mod word_choice;
 pub mod words;

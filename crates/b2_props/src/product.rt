@@ -3,22 +3,26 @@ ghost use Rattle.std.specs.Prelude.{◌≡◌, ◌++◌, ◌∷◌, [], IfOk, On
 ghost use Rattle.std.specs.List.{flat_map};
 ghost use Rattle.b2_props.specs.Requests.{product};
 
-use crate::choice::{Choice, Factor};
 use crate::pair_list::copy_pair;
+use crate::word_choice::{Factor, WordChoice};
 use b2_base::fault::OutOfMemory;
 use std::alloc::Global;
 
-fn copy(choice: &Choice) -> Result<Choice, OutOfMemory>
+fn copy(choice: &WordChoice) -> Result<WordChoice, OutOfMemory>
     ensures { IfOk result (λ made. made ≡ choice.now) }
 {
-    Ok(Choice {
+    Ok(WordChoice {
         pair: copy_pair(&choice.pair)?,
         word: choice.word,
     })
 }
 
 /// A row followed by one choice more.
-fn longer(alloc: Global, row: &[Choice], choice: &Choice) -> Result<Vec<Choice>, OutOfMemory>
+fn longer(
+    alloc: Global,
+    row: &[WordChoice],
+    choice: &WordChoice,
+) -> Result<Vec<WordChoice>, OutOfMemory>
     ensures { IfOk result (λ made. made.items ≡ row.now ++ choice.now ∷ []) }
 {
     let mut made = Vec::new(alloc);
@@ -31,9 +35,9 @@ fn longer(alloc: Global, row: &[Choice], choice: &Choice) -> Result<Vec<Choice>,
 
 fn push_all(
     alloc: Global,
-    rows: &mut Vec<Vec<Choice>>,
-    row: &[Choice],
-    choices: &[Choice],
+    rows: &mut Vec<Vec<WordChoice>>,
+    row: &[WordChoice],
+    choices: &[WordChoice],
 ) -> Result<(), OutOfMemory>
     ensures { OnOk result (map (λ r. r.items) rows.new.items ≡ map (λ r. r.items) rows.old.items ++ map (λ choice. row.now ++ choice ∷ []) choices.now) }
 {
@@ -46,9 +50,9 @@ fn push_all(
 /// Adds a row for each choice; the row itself becomes the last of them, so that one choice alone costs no copy of the row.
 fn branch(
     alloc: Global,
-    rows: &mut Vec<Vec<Choice>>,
-    row: Vec<Choice>,
-    choices: &[Choice],
+    rows: &mut Vec<Vec<WordChoice>>,
+    row: Vec<WordChoice>,
+    choices: &[WordChoice],
 ) -> Result<(), OutOfMemory>
     ensures { OnOk result (map (λ r. r.items) rows.new.items ≡ map (λ r. r.items) rows.old.items ++ map (λ choice. row.items ++ choice ∷ []) choices.now) }
 {
@@ -63,9 +67,9 @@ fn branch(
 
 fn grown(
     alloc: Global,
-    rows: Vec<Vec<Choice>>,
-    choices: &[Choice],
-) -> Result<Vec<Vec<Choice>>, OutOfMemory>
+    rows: Vec<Vec<WordChoice>>,
+    choices: &[WordChoice],
+) -> Result<Vec<Vec<WordChoice>>, OutOfMemory>
     ensures { IfOk result (λ made. map (λ r. r.items) made.items ≡ flat_map (λ row. map (λ choice. row ++ choice ∷ []) choices.now) (map (λ r. r.items) rows.items)) }
 {
     let mut made = Vec::new(alloc);
@@ -76,7 +80,10 @@ fn grown(
 }
 
 /// All lists with one choice of each factor, the leftmost varying slowest.
-pub(crate) fn product(alloc: Global, factors: &[Factor]) -> Result<Vec<Vec<Choice>>, OutOfMemory>
+pub(crate) fn product(
+    alloc: Global,
+    factors: &[Factor],
+) -> Result<Vec<Vec<WordChoice>>, OutOfMemory>
     ensures { IfOk result (λ made. map (λ r. r.items) made.items ≡ product (map (λ f. f.choices.items) factors.now)) }
 {
     let mut rows = Vec::new(alloc);

@@ -4,7 +4,7 @@ ghost use Rattle.std.specs.List.{list_any};
 ghost use Rattle.b2_props.specs.Sets.{same};
 ghost use Rattle.b2_props.specs.Numbers.{number_of};
 
-use crate::numbered::Numbered;
+use crate::numbered_pairs::NumberedPairs;
 use b2_base::fault::OutOfMemory;
 use b2_base::text::Text;
 use std::alloc::Global;
@@ -15,7 +15,7 @@ use std::rc::Rc;
 /// the order of their registry and each once at most, then the free pairs in order, each once. The copies of a set share its
 /// pairs, and the empty set takes no memory.
 pub struct Props {
-    shared: Option<Rc<Numbered>>,
+    shared: Option<Rc<NumberedPairs>>,
 }
 
 impl Model for Props {
@@ -50,7 +50,7 @@ impl Props {
         if pairs.is_empty() {
             return Ok(Props::new(alloc));
         }
-        let shared = Rc::new(alloc, Numbered::new(pairs))?;
+        let shared = Rc::new(alloc, NumberedPairs::new(pairs))?;
         Ok(Props {
             shared: Some(shared),
         })

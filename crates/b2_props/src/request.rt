@@ -6,7 +6,6 @@ ghost use Rattle.b2_props.specs.Words.{first_of, target_words, word_fault, IsBy}
 ghost use Rattle.b2_props.specs.Requests.{word_ways, joined, request_ways, request_sets, row_set, row_fault, request_fault};
 ghost use Rattle.b2_props.specs.Ways.{ways_in, IsPlaced};
 
-use crate::choice::Choice;
 use crate::clashes::row_clash;
 use crate::pair_list::copy_pair;
 use crate::product::product;
@@ -14,6 +13,7 @@ use crate::props::Props;
 use crate::refinement::set_of;
 use crate::request_fault::RequestFault;
 use crate::ways::WayList;
+use crate::word_choice::WordChoice;
 use crate::words::{are_properties, read_segments, slashes};
 use b2_base::fault::OutOfMemory;
 use b2_base::list::List;
@@ -82,7 +82,7 @@ fn check_row(
     alloc: Global,
     registry: &Registry,
     words: &[Text],
-    row: &[Choice],
+    row: &[WordChoice],
 ) -> Result<(), RequestFault>
     ensures ok { OnOk result (row_fault registry.now words.now row.now ≡ None) }
     ensures cause { IfErr result (IsBy (row_fault registry.now words.now row.now)) }
@@ -100,7 +100,7 @@ fn check_rows(
     alloc: Global,
     registry: &Registry,
     words: &[Text],
-    rows: &[Vec<Choice>],
+    rows: &[Vec<WordChoice>],
 ) -> Result<(), RequestFault>
     ensures ok { OnOk result (first_of (row_fault registry.now words.now) (map (λ row. row.items) rows.now) ≡ None) }
     ensures cause { IfErr result (IsBy (first_of (row_fault registry.now words.now) (map (λ row. row.items) rows.now))) }
@@ -111,7 +111,7 @@ fn check_rows(
     Ok(())
 }
 
-fn row_set(alloc: Global, registry: &Registry, row: &[Choice]) -> Result<Props, OutOfMemory>
+fn row_set(alloc: Global, registry: &Registry, row: &[WordChoice]) -> Result<Props, OutOfMemory>
     ensures value { IfOk result (λ made. made ≡ row_set registry.now row.now) }
     ensures set { IfOk result (λ made. IsSet registry.now made) }
 {
@@ -125,7 +125,7 @@ fn row_set(alloc: Global, registry: &Registry, row: &[Choice]) -> Result<Props, 
 fn row_sets(
     alloc: Global,
     registry: &Registry,
-    rows: &[Vec<Choice>],
+    rows: &[Vec<WordChoice>],
 ) -> Result<PropsList, OutOfMemory>
     ensures value { IfOk result (λ made. made ≡ map (row_set registry.now) (map (λ row. row.items) rows.now)) }
     ensures set { IfOk result (λ made. AllByRecursion (IsSet registry.now) made) }

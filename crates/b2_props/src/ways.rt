@@ -6,9 +6,9 @@ ghost use Rattle.std.specs.Str.{bytes_eq};
 ghost use Rattle.b2_props.specs.Requests.{choices_of, shared, segment_ways, joined};
 ghost use Rattle.b2_props.specs.Ways.{ways_of, ways_in, place_of, longer_at, IsPlaced};
 
-use crate::choice::{Choice, Factor};
 use crate::lookups::is_with;
 use crate::pair_list::copy_pair;
+use crate::word_choice::{Factor, WordChoice};
 use b2_base::fault::OutOfMemory;
 use b2_base::text::Text;
 use b2_base::text_map::TextMap;
@@ -36,12 +36,12 @@ pub(crate) fn choices_of(
     alloc: Global,
     place: usize,
     pairs: &[(Text, Text)],
-) -> Result<Vec<Choice>, OutOfMemory>
+) -> Result<Vec<WordChoice>, OutOfMemory>
     ensures { IfOk result (λ made. made.items ≡ choices_of place pairs.now) }
 {
     let mut made = Vec::new(alloc);
     for pair in pairs {
-        made.push(Choice {
+        made.push(WordChoice {
             pair: copy_pair(pair)?,
             word: place,
         })?;
@@ -139,7 +139,7 @@ impl WayList {
     }
 
     /// Adds choices to the factor at a place.
-    fn append(&mut self, place: usize, choices: Vec<Choice>) -> Result<(), OutOfMemory>
+    fn append(&mut self, place: usize, choices: Vec<WordChoice>) -> Result<(), OutOfMemory>
         requires within { place < length (ways_in self.old) }
         requires placed { IsPlaced self.old }
         ensures ways { OnOk result (ways_in self.new ≡ longer_at place choices.items (ways_in self.old)) }

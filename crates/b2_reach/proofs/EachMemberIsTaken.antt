@@ -9,7 +9,7 @@ use Rattle.b2_facts.specs.Facts.{IsAbout, file_at}
 use Rattle.b2_facts.specs.Growth as facts
 use Rattle.b2_facts.proofs.FactsGrow.{grows_then as grown_then}
 use Rattle.b2_reach.specs.declared.reach.Reach.{Reach}
-use Rattle.b2_facts.specs.declared.stop.Stop.{Stop}
+use Rattle.b2_facts.specs.declared.stop.FilesStop.{FilesStop}
 use Rattle.b2_reach.specs.declared.sights.Sights.{Sights}
 use Rattle.b2_reach.specs.declared.due.Due.{Due}
 use Rattle.b2_reach.specs.declared.due.Due.TheVariants as dues
@@ -27,7 +27,7 @@ module _ (plan : Plan) (settled : ℕ → Type 0) (number : ℕ) (r : Reach) (s 
   none_in m among = absurd (omega (arith, among.1))
 
   -- the look stopped
-  pub look_stopped : {notes : Bool} (t : Sights) (y : Outside) (stop : Stop) → LearnsMore {T = Due} notes plan.steps plan.roots settled [] s x t y (Err stop) → Takes notes plan settled number r s x r t y (Err stop)
+  pub look_stopped : {notes : Bool} (t : Sights) (y : Outside) (stop : FilesStop) → LearnsMore {T = Due} notes plan.steps plan.roots settled [] s x t y (Err stop) → Takes notes plan settled number r s x r t y (Err stop)
   look_stopped t y stop grows = record {
     same = refl;
     takes = takes_none plan settled s.facts t.facts r about grows.learns.grows order;
@@ -56,7 +56,7 @@ module _ (plan : Plan) (settled : ℕ → Type 0) (number : ℕ) (r : Reach) (s 
     maker_so : (k : ℕ) → IsMakerOf t.facts number k → settled k
     maker_so = maker_settled plan.steps settled t.facts number file_then.0 file_then.1 (due file_then.0 file_then.1).1
 
-    read_takes : {T : Type 0} (result : Result T Stop) → LearnsMore notes plan.steps plan.roots (IsMakerOf t.facts number) (number ∷ []) t y w z result → TakesIn plan settled w.facts r q
+    read_takes : {T : Type 0} (result : Result T FilesStop) → LearnsMore notes plan.steps plan.roots (IsMakerOf t.facts number) (number ∷ []) t y w z result → TakesIn plan settled w.facts r q
     read_takes result read =
         let grown = grown_then s.facts t.facts w.facts looked.learns.grows read.learns.grows in
         takes_in plan settled s.facts w.facts r q number about (read.learns.about (looked.learns.about about)) grown order member (λ file at. hand_after file at read.learns.grows) same adds
@@ -64,7 +64,7 @@ module _ (plan : Plan) (settled : ℕ → Type 0) (number : ℕ) (r : Reach) (s 
         hand_after : (file : FileFacts) → file_at w.facts number ≡ Some file → facts.Grows t.facts w.facts → IsAtHand plan.steps settled file
         hand_after file at grown = at_hand_grows plan.steps settled settled file_then.0 file (λ k is. is) (was_file t.facts w.facts number file_then.0 file grown file_then.1 at) (due file_then.0 file_then.1).1
 
-    read_grows : {T : Type 0} (result : Result T Stop) → LearnsMore notes plan.steps plan.roots (IsMakerOf t.facts number) (number ∷ []) t y w z result → LearnsMore notes plan.steps plan.roots settled q.members s x w z result
+    read_grows : {T : Type 0} (result : Result T FilesStop) → LearnsMore notes plan.steps plan.roots (IsMakerOf t.facts number) (number ∷ []) t y w z result → LearnsMore notes plan.steps plan.roots settled q.members s x w z result
     read_grows result read =
         let takes = read_takes result read in
         let in_q : (m : ℕ) → Contains (number ∷ []) m → Contains q.members m = λ m among. wider plan.steps settled w.facts r q takes.gathers m (subst (Contains r.members) (only_one number m among) member) in
@@ -84,7 +84,7 @@ module _ (plan : Plan) (settled : ℕ → Type 0) (number : ℕ) (r : Reach) (s 
       grows = grows_ok plan.steps plan.roots settled q.members s w x z v dues.Read (read_grows (Ok v) read);
     }
 
-    pub read_stopped : (stop : Stop) → LearnsMore {T = Unit {0}} notes plan.steps plan.roots (IsMakerOf t.facts number) (number ∷ []) t y w z (Err stop) → Takes notes plan settled number r s x q w z (Err stop)
+    pub read_stopped : (stop : FilesStop) → LearnsMore {T = Unit {0}} notes plan.steps plan.roots (IsMakerOf t.facts number) (number ∷ []) t y w z (Err stop) → Takes notes plan settled number r s x q w z (Err stop)
     read_stopped stop read = record {
       same = same;
       takes = read_takes {T = Unit {0}} (Err stop) read;

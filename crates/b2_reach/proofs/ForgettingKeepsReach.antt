@@ -5,7 +5,7 @@ use Rattle.std.proofs.lemmas.Bool.{cases_eq}
 use Rattle.b2_plan.specs.declared.step.Step.{Step}
 use Rattle.b2_sched.specs.Schedules.{IsSettled}
 use Rattle.b2_facts.specs.declared.file_facts.FileFacts.{FileFacts}
-use Rattle.b2_facts.specs.declared.file_facts.Seen.TheVariants as seen
+use Rattle.b2_facts.specs.declared.file_facts.FileLook.TheVariants as seen
 use Rattle.b2_facts.specs.Facts.{Knowledge, IsAbout, file_at, with_file}
 use Rattle.b2_facts.specs.Asks.{IsGivenBy, IsGivenBy.made as given_made, IsNotGivenBy}
 use Rattle.b2_facts.proofs.ListsAtPlaces.{some_is, none_some, set_here, set_there, set_length, among_at}

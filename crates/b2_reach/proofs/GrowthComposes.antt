@@ -14,8 +14,8 @@ use Rattle.b2_facts.specs.Facts.{Knowledge}
 use Rattle.b2_facts.specs.Growth.{Learns}
 use Rattle.b2_facts.specs.Growth as facts
 use Rattle.b2_facts.proofs.FactsGrow.{seen_known, stays_known, file_same, grows_same, learns_same, learns_then, learns_more}
-use Rattle.b2_facts.specs.declared.stop.Stop.{Stop}
-use Rattle.b2_facts.specs.declared.stop.Stop.TheVariants as stops
+use Rattle.b2_facts.specs.declared.stop.FilesStop.{FilesStop}
+use Rattle.b2_facts.specs.declared.stop.FilesStop.TheVariants as stops
 use Rattle.b2_reach.specs.declared.sights.Sights.{Sights}
 use Rattle.b2_reach.specs.Files.{IsNumberAtHand}
 use Rattle.b2_facts.specs.Stops.{StopTold}
@@ -60,13 +60,13 @@ module _ (steps : List Step) (settled more : ℕ → Type 0) (f g : Knowledge) (
   course_up log after_log x y (noted l before after line v on n) = noted l before after line v on (noted_up l line before after (Ok v) n)
   course_up log after_log x y (next a b c p q r first then) = next a b c p q r (course_up a b p q first) (course_up b c q r then)
 
-  course_told_up : {T : Type 0} (notes : Bool) (log after_log : List LogLine) (x y : Outside) (r : Result T Stop) → CourseTold notes steps settled f members log x after_log y r → CourseTold notes steps more g most log x after_log y r
+  course_told_up : {T : Type 0} (notes : Bool) (log after_log : List LogLine) (x y : Outside) (r : Result T FilesStop) → CourseTold notes steps settled f members log x after_log y r → CourseTold notes steps more g most log x after_log y r
   course_told_up notes log after_log x y (Ok v) course = course_up log after_log x y course
   course_told_up notes log after_log x z (Err stop) (whole course) = whole (course_up log after_log x z course)
   course_told_up notes log after_log x z (Err stop) (unnoted y path stamp course r last) = unnoted y path stamp (course_up log after_log x y course) (to_read_up after_log path stamp r) last
   course_told_up notes log after_log x z (Err stop) (cut y line fault on course n) = cut y line fault on (course_up log after_log x y course) (noted_up after_log line y z (Err fault) n)
 
-course_then : {T : Type 0} {notes : Bool} (steps : List Step) (settled : ℕ → Type 0) (f : Knowledge) (members : List ℕ) (log more most : List LogLine) (x y z : Outside) (r : Result T Stop) → Course notes steps settled f members log x more y → CourseTold notes steps settled f members more y most z r → CourseTold notes steps settled f members log x most z r
+course_then : {T : Type 0} {notes : Bool} (steps : List Step) (settled : ℕ → Type 0) (f : Knowledge) (members : List ℕ) (log more most : List LogLine) (x y z : Outside) (r : Result T FilesStop) → Course notes steps settled f members log x more y → CourseTold notes steps settled f members more y most z r → CourseTold notes steps settled f members log x most z r
 course_then steps settled f members log more most x y z (Ok v) a b = next log more most x y z a b
 course_then steps settled f members log more most x y z (Err stop) a (whole b) = whole (next log more most x y z a b)
 course_then steps settled f members log more most x y z (Err stop) a (unnoted w path stamp b r last) = unnoted w path stamp (next log more most x y w a b) r last
@@ -74,23 +74,23 @@ course_then steps settled f members log more most x y z (Err stop) a (cut w line
 
 -- ---- counts
 
-told_then : {T : Type 0} (x y z : Outside) (r : Result T Stop) → y.risks ≡ x.risks → y.faults ≡ x.faults → StopTold y z r → StopTold x z r
+told_then : {T : Type 0} (x y z : Outside) (r : Result T FilesStop) → y.risks ≡ x.risks → y.faults ≡ x.faults → StopTold y z r → StopTold x z r
 told_then x y z (Ok v) risks same told = told ∙ same
 told_then x y z (Err stops.Host) risks same told = (ap (λ (r : Risks). r.may_fail) (sym risks) ∙ told.0, subst (λ n. Rose n z.faults) same told.1)
 told_then x y z (Err stops.OutOfMemory) risks same told = told ∙ same
 told_then x y z (Err (stops.TooBig number size)) risks same told = told ∙ same
 
-told_err : (T S : Type 0) (x y : Outside) (stop : Stop) → StopTold {T = T} x y (Err stop) → StopTold {T = S} x y (Err stop)
+told_err : (T S : Type 0) (x y : Outside) (stop : FilesStop) → StopTold {T = T} x y (Err stop) → StopTold {T = S} x y (Err stop)
 told_err T S x y stops.Host told = told
 told_err T S x y stops.OutOfMemory told = told
 told_err T S x y (stops.TooBig number size) told = told
 
-big_err : (T S : Type 0) (steps : List Step) (settled : ℕ → Type 0) (members : List ℕ) (f : Knowledge) (y : Outside) (stop : Stop) → TellsTooBig {T = T} steps settled f members y (Err stop) → TellsTooBig {T = S} steps settled f members y (Err stop)
+big_err : (T S : Type 0) (steps : List Step) (settled : ℕ → Type 0) (members : List ℕ) (f : Knowledge) (y : Outside) (stop : FilesStop) → TellsTooBig {T = T} steps settled f members y (Err stop) → TellsTooBig {T = S} steps settled f members y (Err stop)
 big_err T S steps settled members f y stops.Host big = tt
 big_err T S steps settled members f y stops.OutOfMemory big = tt
 big_err T S steps settled members f y (stops.TooBig number size) big = big
 
-big_up : {T : Type 0} (steps : List Step) (settled more : ℕ → Type 0) (members most : List ℕ) (f : Knowledge) (y : Outside) (r : Result T Stop) → ((number : ℕ) → settled number → more number) → ((m : ℕ) → Contains members m → Contains most m)
+big_up : {T : Type 0} (steps : List Step) (settled more : ℕ → Type 0) (members most : List ℕ) (f : Knowledge) (y : Outside) (r : Result T FilesStop) → ((number : ℕ) → settled number → more number) → ((m : ℕ) → Contains members m → Contains most m)
     → TellsTooBig steps settled f members y r → TellsTooBig steps more f most y r
 big_up steps settled more members most f y (Ok v) so wider big = tt
 big_up steps settled more members most f y (Err stops.Host) so wider big = tt
@@ -130,7 +130,7 @@ hand_up steps settled more f g n so grown is =
     record { file = later.0; file_is = later.1; hand = at_hand_grows steps settled more is.file later.0 so later.2 is.hand }
 
 -- the lines are there after one call, and after another
-lined_then : {T : Type 0} (steps : List Step) (roots : List (List ℕ)) (s t w : Sights) (x y z : Option Disk) (r : Result T Stop) → BothTold (StaysTrueSight steps roots s t) x y → BothTold (StaysLined steps roots s t) x y → OnOk r (BothTold (StaysLined steps roots t w) y z) → OnOk r (BothTold (StaysLined steps roots s w) x z)
+lined_then : {T : Type 0} (steps : List Step) (roots : List (List ℕ)) (s t w : Sights) (x y z : Option Disk) (r : Result T FilesStop) → BothTold (StaysTrueSight steps roots s t) x y → BothTold (StaysLined steps roots s t) x y → OnOk r (BothTold (StaysLined steps roots t w) y z) → OnOk r (BothTold (StaysLined steps roots s w) x z)
 lined_then steps roots s t w x y z (Err stop) told first again = tt
 lined_then steps roots s t w x y z (Ok v) told first again = go x y z told first again
   where
@@ -143,7 +143,7 @@ lined_then steps roots s t w x y z (Ok v) told first again = go x y z told first
     go (Some a) (Some b) (Some c) told first again = λ u apart build is lined. again u apart build (told u apart build is) (first u apart build is lined)
 
 -- more steps are settled, and more numbers are members
-pub grows_up : {notes : Bool} {T : Type 0} (steps : List Step) (roots : List (List ℕ)) (settled more : ℕ → Type 0) (members most : List ℕ) (s t : Sights) (x y : Outside) (r : Result T Stop) → ((number : ℕ) → settled number → more number) → ((m : ℕ) → Contains members m → Contains most m)
+pub grows_up : {notes : Bool} {T : Type 0} (steps : List Step) (roots : List (List ℕ)) (settled more : ℕ → Type 0) (members most : List ℕ) (s t : Sights) (x y : Outside) (r : Result T FilesStop) → ((number : ℕ) → settled number → more number) → ((m : ℕ) → Contains members m → Contains most m)
     → LearnsMore notes steps roots settled members s x t y r → LearnsMore notes steps roots more most s x t y r
 grows_up {notes} steps roots settled more members most s t x y r so wider a = record {
   only_log = a.only_log;
@@ -157,7 +157,7 @@ grows_up {notes} steps roots settled more members most s t x y r so wider a = re
 }
 
 -- one call, and then another
-pub grows_then : {T S : Type 0} {notes : Bool} (steps : List Step) (roots : List (List ℕ)) (settled : ℕ → Type 0) (members most : List ℕ) (s t w : Sights) (x y z : Outside) (v : T) (r : Result S Stop) → ((m : ℕ) → Contains members m → Contains most m)
+pub grows_then : {T S : Type 0} {notes : Bool} (steps : List Step) (roots : List (List ℕ)) (settled : ℕ → Type 0) (members most : List ℕ) (s t w : Sights) (x y z : Outside) (v : T) (r : Result S FilesStop) → ((m : ℕ) → Contains members m → Contains most m)
     → LearnsMore notes steps roots settled members s x t y (Ok v) → LearnsMore notes steps roots settled most t y w z r → LearnsMore notes steps roots settled most s x w z r
 grows_then steps roots settled members most s t w x y z v r wider a b = record {
   only_log = log_changes_then x y z a.only_log b.only_log;
@@ -172,7 +172,7 @@ grows_then steps roots settled members most s t w x y z v r wider a b = record {
 }
 
 -- a stop is handed on
-pub grows_err : {T S : Type 0} {notes : Bool} (steps : List Step) (roots : List (List ℕ)) (settled : ℕ → Type 0) (members : List ℕ) (s t : Sights) (x y : Outside) (stop : Stop) → LearnsMore {T = T} notes steps roots settled members s x t y (Err stop) → LearnsMore {T = S} notes steps roots settled members s x t y (Err stop)
+pub grows_err : {T S : Type 0} {notes : Bool} (steps : List Step) (roots : List (List ℕ)) (settled : ℕ → Type 0) (members : List ℕ) (s t : Sights) (x y : Outside) (stop : FilesStop) → LearnsMore {T = T} notes steps roots settled members s x t y (Err stop) → LearnsMore {T = S} notes steps roots settled members s x t y (Err stop)
 grows_err {T} {S} steps roots settled members s t x y stop a = record {
   only_log = a.only_log;
   faults = told_err T S x y stop a.faults;
@@ -185,7 +185,7 @@ grows_err {T} {S} steps roots settled members s t x y stop a = record {
 }
 
 -- a stop is handed on by the exit of a `?`
-pub grows_err_as : {T S : Type 0} {steps : List Step} {roots : List (List ℕ)} {settled : ℕ → Type 0} {members : List ℕ} {s t : Sights} {x y : Outside} {notes : Bool} (stop : Stop) (r : Result S Stop) → r ≡ Err stop → LearnsMore {T = T} notes steps roots settled members s x t y (Err stop) → LearnsMore {T = S} notes steps roots settled members s x t y r
+pub grows_err_as : {T S : Type 0} {steps : List Step} {roots : List (List ℕ)} {settled : ℕ → Type 0} {members : List ℕ} {s t : Sights} {x y : Outside} {notes : Bool} (stop : FilesStop) (r : Result S FilesStop) → r ≡ Err stop → LearnsMore {T = T} notes steps roots settled members s x t y (Err stop) → LearnsMore {T = S} notes steps roots settled members s x t y r
 grows_err_as {T} {S} {steps} {roots} {settled} {members} {s} {t} {x} {y} {notes} stop r is a = subst (LearnsMore {T = S} notes steps roots settled members s x t y) (sym is) (grows_err {T = T} {S = S} steps roots settled members s t x y stop a)
 
 -- another value of the same
@@ -223,7 +223,7 @@ pub grows_stop : {T S : Type 0} {steps : List Step} {roots : List (List ℕ)} {s
 grows_stop {T} {S} {steps} {roots} {settled} {members} {s} {t} {x} {y} v a = grows_then {T = T} {S = S} steps roots settled members members s t t x y y v (Err stops.OutOfMemory) (λ m is. is) a (grows_no_memory {T = S} steps roots settled members t y)
 
 -- marks do not count
-pub grows_marks : {T : Type 0} {notes : Bool} (steps : List Step) (roots : List (List ℕ)) (settled : ℕ → Type 0) (members : List ℕ) (s t : Sights) (x y : Outside) (r : Result T Stop) (marks : List Bool) → LearnsMore notes steps roots settled members s x t y r → LearnsMore notes steps roots settled members s x (record t { marks = marks }) y r
+pub grows_marks : {T : Type 0} {notes : Bool} (steps : List Step) (roots : List (List ℕ)) (settled : ℕ → Type 0) (members : List ℕ) (s t : Sights) (x y : Outside) (r : Result T FilesStop) (marks : List Bool) → LearnsMore notes steps roots settled members s x t y r → LearnsMore notes steps roots settled members s x (record t { marks = marks }) y r
 grows_marks steps roots settled members s t x y r marks a = record {
   only_log = a.only_log;
   faults = a.faults;

@@ -12,7 +12,7 @@ use Rattle.b2_log.specs.declared.line.LogLine.TheVariants as lines
 use Rattle.b2_log.specs.Finding.{path_of, find_scan}
 use Rattle.b2_runs.proofs.LastLineIsFound.{last_scan, path_same, scans_unsaid, outs_not_scanned}
 use Rattle.b2_facts.specs.declared.file_facts.FileFacts.{FileFacts}
-use Rattle.b2_facts.specs.declared.file_facts.Seen.TheVariants as seen
+use Rattle.b2_facts.specs.declared.file_facts.FileLook.TheVariants as seen
 use Rattle.b2_facts.specs.Facts.{Knowledge, IsFile, IsRead, WasRead, IsAbout, path_at, file_at, with_file}
 use Rattle.b2_facts.specs.Growth.{FileGrows, Learns, OfNone, OfOne}
 use Rattle.b2_facts.specs.Growth as facts

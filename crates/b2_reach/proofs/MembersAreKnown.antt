@@ -27,7 +27,7 @@ use Rattle.jam_scan.specs.Scans.{is_scanned}
 use Rattle.jam_scan.specs.IncludeLines.{includes_of}
 use Rattle.b2_sched.specs.Schedules.{IsSettled}
 use Rattle.b2_facts.specs.declared.file_facts.FileFacts.{FileFacts}
-use Rattle.b2_facts.specs.declared.file_facts.Seen.TheVariants as seen
+use Rattle.b2_facts.specs.declared.file_facts.FileLook.TheVariants as seen
 use Rattle.b2_facts.specs.Facts.{Knowledge, IsFile, IsPlanned, path_at, file_at, dirs_at}
 use Rattle.b2_facts.specs.Truth.{IncludesFrom}
 use Rattle.std.specs.Option.{IfSome}

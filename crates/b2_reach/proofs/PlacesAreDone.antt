@@ -12,8 +12,8 @@ use Rattle.b2_facts.specs.declared.file_facts.FileFacts.{FileFacts}
 use Rattle.b2_facts.specs.Facts.{Knowledge, IsAbout, file_at}
 use Rattle.b2_facts.proofs.ListsAtPlaces.{some_is, among_at, get_stays}
 use Rattle.b2_reach.specs.declared.reach.Reach.{Reach}
-use Rattle.b2_facts.specs.declared.stop.Stop.{Stop}
-use Rattle.b2_facts.specs.declared.stop.Stop.TheVariants as stops
+use Rattle.b2_facts.specs.declared.stop.FilesStop.{FilesStop}
+use Rattle.b2_facts.specs.declared.stop.FilesStop.TheVariants as stops
 use Rattle.b2_reach.specs.declared.sights.Sights.{Sights}
 use Rattle.b2_reach.specs.declared.due.Due.{Due}
 use Rattle.b2_reach.specs.declared.due.Due.TheVariants as dues
@@ -104,7 +104,7 @@ module _ (plan : Plan) (settled : ℕ → Type 0) (number : ℕ) (r : Reach) (s 
   pending_same : ChangesMembers r q → WaitMore settled t.facts r.pending q.pending
   pending_same same n among = inl (subst (λ l. Contains l n) (ap (λ (p : Reach). p.pending) same) among)
 
-  pub next_waits : {notes : Bool} (result : Result Due Stop) → Takes notes plan settled number r s x q t y result → WaitMore settled t.facts r.pending q.pending
+  pub next_waits : {notes : Bool} (result : Result Due FilesStop) → Takes notes plan settled number r s x q t y result → WaitMore settled t.facts r.pending q.pending
   next_waits result took = pending_same took.same
 
   pub next_no_memory : {notes : Bool} (due : Due) → Takes notes plan settled number r s x q t y (Ok due) → LearnsMore {T = Unit {0}} notes plan.steps plan.roots settled q.members s x t y (Err stops.OutOfMemory)

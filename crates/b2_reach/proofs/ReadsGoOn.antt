@@ -25,7 +25,7 @@ use Rattle.b2_runs.proofs.LastLineIsFound.{last_scan}
 use Rattle.b2_runs.proofs.ReadsOnce.{reads_more, reads_as_past_grows}
 use Rattle.b2_runs.proofs.ReadsLeaveLines.{lines_before_read, lines_after_read, lines_as_past_grows, stands_after_line}
 use Rattle.b2_sched.specs.Schedules.{Schedule, IsSettled}
-use Rattle.b2_facts.specs.declared.file_facts.Seen.TheVariants as seen
+use Rattle.b2_facts.specs.declared.file_facts.FileLook.TheVariants as seen
 use Rattle.b2_facts.specs.Facts.{Knowledge, path_at}
 use Rattle.b2_facts.proofs.ListsAtPlaces.{some_is, none_some}
 use Rattle.b2_journal.specs.Notes.{Notes}

@@ -25,21 +25,21 @@ use Rattle.b2_runs.specs.Staleness.{Update}
 use Rattle.b2_runs.proofs.SourcesAreKept.{log_in_roots}
 use Rattle.b2_runs.proofs.LastLineIsFound.{last_scan}
 use Rattle.b2_facts.specs.declared.file_facts.FileFacts.{FileFacts}
-use Rattle.b2_facts.specs.declared.file_facts.Seen.{Seen}
-use Rattle.b2_facts.specs.declared.file_facts.Seen.TheVariants as seen
+use Rattle.b2_facts.specs.declared.file_facts.FileLook.{FileLook}
+use Rattle.b2_facts.specs.declared.file_facts.FileLook.TheVariants as seen
 use Rattle.b2_facts.specs.declared.fault.ReadFault.{ReadFault}
 use Rattle.b2_facts.specs.declared.fault.ReadFault.TheVariants as faults
 use Rattle.b2_facts.specs.Facts.{Knowledge, IsNumber, IsFile, IsRead, IsAbout, path_at, file_at}
 use Rattle.b2_facts.specs.Growth.{FileGrows, Learns, OfNone, OfOne}
 use Rattle.b2_facts.specs.Growth as facts
 use Rattle.b2_facts.specs.Truth.{IsBuildOf, IsReadAs, StaysTrue, StaysTrueOf, ScansTell}
-use Rattle.b2_facts.specs.declared.scans.Scanned.{Scanned}
-use Rattle.b2_facts.specs.declared.scans.Scanned.TheVariants as answers
+use Rattle.b2_facts.specs.declared.scans.ScanAnswer.{ScanAnswer}
+use Rattle.b2_facts.specs.declared.scans.ScanAnswer.TheVariants as answers
 use Rattle.b2_facts.specs.Asks.{ReadsToScan, Scans, IsScannedAs, IsLineOf, IsGoneAtRead, IsTooBigFor}
 use Rattle.b2_facts.proofs.ListsAtPlaces.{some_is, none_some, get_some}
 use Rattle.b2_facts.proofs.FactsGrow.{learns_more, stays_known}
-use Rattle.b2_facts.specs.declared.stop.Stop.{Stop}
-use Rattle.b2_facts.specs.declared.stop.Stop.TheVariants as stops
+use Rattle.b2_facts.specs.declared.stop.FilesStop.{FilesStop}
+use Rattle.b2_facts.specs.declared.stop.FilesStop.TheVariants as stops
 use Rattle.b2_reach.specs.declared.sights.Sights.{Sights}
 use Rattle.b2_reach.specs.Files.{IsAtHand, IsAtHand.source as hand_source, IsAtHand.made as hand_made, IsNumberAtHand, IsMakerOf}
 use Rattle.b2_facts.specs.Stops.{StopTold, stop_of_io, stop_of_read}
@@ -312,14 +312,14 @@ module _ (steps : List Step) (roots : List (List ℕ)) (s : Sights) (g : Knowled
     abbrev noted_sights : Sights
     noted_sights = record s { facts = g; journal = s.journal ++ lines.Scan line ∷ [] }
 
-    stamp_of : Seen → ℕ → ℕ
+    stamp_of : FileLook → ℕ → ℕ
     stamp_of seen.Unasked d = d
     stamp_of seen.Gone d = d
     stamp_of (seen.Stands stamp) d = stamp
 
     same_stamp : r.stamp ≡ line.stamp
     unfolding stamp_of
-    same_stamp = ap (λ (x : Seen). stamp_of x 0) (sym r.stands ∙ answer.stands)
+    same_stamp = ap (λ (x : FileLook). stamp_of x 0) (sym r.stands ∙ answer.stands)
 
     line_file : IsFile g number line.path r.file
     line_file = record { path_is = subst (λ p. path_at g number ≡ Some p) (sym answer.path_is) r.is_file.path_is; file_is = r.is_file.file_is }
@@ -409,14 +409,14 @@ module _ (steps : List Step) (roots : List (List ℕ)) (s : Sights) (g : Knowled
 -- ---- the exits of a scan
 
 -- what one scan does over a log
-pub record DoesScan (s : Sights) (g : Knowledge) (number : ℕ) (log : List LogLine) (x y : Outside) (result : Result Scanned ReadFault) : Type 0 where
+pub record DoesScan (s : Sights) (g : Knowledge) (number : ℕ) (log : List LogLine) (x y : Outside) (result : Result ScanAnswer ReadFault) : Type 0 where
   pub effect : Scans g number log x y result
   pub answer : IfOk result (λ answer. (path : List ℕ) (file : FileFacts) → IsFile g number path file → IsScannedAs x.disk log s.facts number path file answer)
   pub told : IfSome x.disk (λ disk. (steps : List Step) (roots : List (List ℕ)) (b : Build) → ScansTell b disk.now log → StaysTrueOf steps roots disk.now s.facts g b)
   pub too_big : IfErr result (λ fault. IfSome x.disk (λ disk. (path : List ℕ) → path_at s.facts number ≡ Some path → IsTooBigFor 16777216 path disk.now fault))
 
 -- over the lines of the log, by the answer
-pub does_at : (s : Sights) (g : Knowledge) (number : ℕ) (log : List LogLine) (x y : Outside) (r q : Result Scanned ReadFault) → log ≡ s.journal → r ≡ q → DoesScan s g number log x y r → DoesScan s g number s.journal x y q
+pub does_at : (s : Sights) (g : Knowledge) (number : ℕ) (log : List LogLine) (x y : Outside) (r q : Result ScanAnswer ReadFault) → log ≡ s.journal → r ≡ q → DoesScan s g number log x y r → DoesScan s g number s.journal x y q
 does_at s g number log x y r q same is does = subst (DoesScan s g number s.journal x y) is (subst (λ l. DoesScan s g number l x y r) same does)
 
 -- what is known of the file afterwards
@@ -441,7 +441,7 @@ gone_read s g number x y has within grown does file at is =
 
 module _ (steps : List Step) (roots : List (List ℕ)) (s : Sights) (g : Knowledge) (number : ℕ) (within : IsNumber s.facts number) (file : FileFacts) (known : file_at s.facts number ≡ Some file) (scanned : file.scanned ≡ true)
     (hand : IsAtHand steps (IsMakerOf s.facts number) file) (learns : Learns steps roots (OfOne number) s.facts g) (x y : Outside) where
-  abbrev Comes : (T : Type 0) → Bool → Sights → Outside → Result T Stop → Type 0
+  abbrev Comes : (T : Type 0) → Bool → Sights → Outside → Result T FilesStop → Type 0
   Comes T notes t z result = LearnsMore {T = T} notes steps roots (IsMakerOf s.facts number) (number ∷ []) s x t z result
 
   -- what is true of the file with this number afterwards
@@ -535,7 +535,7 @@ module _ (steps : List Step) (roots : List (List ℕ)) (s : Sights) (g : Knowled
 maker_before : (f g : Knowledge) (n k : ℕ) (file : FileFacts) → facts.Grows f g → file_at f n ≡ Some file → IsMakerOf g n k → IsMakerOf f n k
 maker_before f g n k file grown at is = record { file = file; file_is = at; made = sym (was_file f g n file is.file grown at is.file_is).maker ∙ is.made }
 
-pub scan_then : {S : Type 0} {notes : Bool} (steps : List Step) (roots : List (List ℕ)) (s t w : Sights) (number : ℕ) (file : FileFacts) (x y z : Outside) (v : Bool) (r : Result S Stop) → file_at s.facts number ≡ Some file
+pub scan_then : {S : Type 0} {notes : Bool} (steps : List Step) (roots : List (List ℕ)) (s t w : Sights) (number : ℕ) (file : FileFacts) (x y z : Outside) (v : Bool) (r : Result S FilesStop) → file_at s.facts number ≡ Some file
     → LearnsMore notes steps roots (IsMakerOf s.facts number) (number ∷ []) s x t y (Ok v) → LearnsMore notes steps roots (IsMakerOf t.facts number) (number ∷ []) t y w z r → LearnsMore notes steps roots (IsMakerOf s.facts number) (number ∷ []) s x w z r
 scan_then steps roots s t w number file x y z v r at first next =
     grows_then steps roots (IsMakerOf s.facts number) (number ∷ []) (number ∷ []) s t w x y z v r (λ m is. is) first

@@ -19,8 +19,8 @@ use Rattle.b2_runs.specs.Staleness.{Update, making}
 use Rattle.b2_runs.proofs.SourcesAreKept.{log_in_roots}
 use Rattle.b2_runs.proofs.ScanTells.{found_scan_tells}
 use Rattle.b2_facts.specs.declared.file_facts.FileFacts.{FileFacts}
-use Rattle.b2_facts.specs.declared.file_facts.Seen.{Seen}
-use Rattle.b2_facts.specs.declared.file_facts.Seen.TheVariants as seen
+use Rattle.b2_facts.specs.declared.file_facts.FileLook.{FileLook}
+use Rattle.b2_facts.specs.declared.file_facts.FileLook.TheVariants as seen
 use Rattle.b2_facts.specs.Facts.{Knowledge, IsFile, IsBlank, IsAbout, path_at}
 use Rattle.b2_facts.specs.Growth.{Learns}
 use Rattle.b2_facts.specs.Truth.{IsBuildOf, IsSeen, IsReadAs, AreTrueOfFile, AreTrue, StaysTrueOf, ScansTell}
@@ -43,10 +43,10 @@ pub no_stamp_no_bytes : (o : Option File) (bytes : List ℕ) → option_map (λ 
 no_stamp_no_bytes None bytes e f = none_some bytes f
 no_stamp_no_bytes (Some file) bytes e f = none_some file.stamp (sym e)
 
-pub seen_gone : (s : Seen) (stamp : Option ℕ) → s ≡ seen.Gone → IsSeen s stamp → stamp ≡ None
+pub seen_gone : (s : FileLook) (stamp : Option ℕ) → s ≡ seen.Gone → IsSeen s stamp → stamp ≡ None
 seen_gone s stamp e is = subst (λ x. IsSeen x stamp) e is
 
-pub seen_stands : (s : Seen) (known : ℕ) (stamp : Option ℕ) → s ≡ seen.Stands known → IsSeen s stamp → stamp ≡ Some known
+pub seen_stands : (s : FileLook) (known : ℕ) (stamp : Option ℕ) → s ≡ seen.Stands known → IsSeen s stamp → stamp ≡ Some known
 seen_stands s known stamp e is = subst (λ x. IsSeen x stamp) e is
 
 -- ---- all
@@ -94,7 +94,7 @@ scans_tell u disk s is path stamp line bytes at stands has = found_scan_tells (m
 
 -- ---- a line is noted
 
-seen_blank : (s : Seen) (stamp : Option ℕ) → s ≡ seen.Unasked → IsSeen s stamp
+seen_blank : (s : FileLook) (stamp : Option ℕ) → s ≡ seen.Unasked → IsSeen s stamp
 seen_blank s stamp e = subst (λ x. IsSeen x stamp) (sym e) tt
 
 read_blank : {X : Type 0} (of : List ℕ → X) (bytes : Option (List ℕ)) (known : Option X) → known ≡ None → IsReadAs of bytes known

@@ -8,8 +8,8 @@ use Rattle.b2_facts.specs.Facts.{Knowledge, IsNumber, IsAbout}
 use Rattle.b2_facts.specs.Growth as facts
 use Rattle.b2_facts.proofs.FactsGrow.{grows_same as facts_same}
 use Rattle.b2_reach.specs.declared.reach.Reach.{Reach}
-use Rattle.b2_facts.specs.declared.stop.Stop.{Stop}
-use Rattle.b2_facts.specs.declared.stop.Stop.TheVariants as stops
+use Rattle.b2_facts.specs.declared.stop.FilesStop.{FilesStop}
+use Rattle.b2_facts.specs.declared.stop.FilesStop.TheVariants as stops
 use Rattle.b2_reach.specs.declared.sights.Sights.{Sights}
 use Rattle.b2_reach.specs.declared.due.Due.{Due}
 use Rattle.b2_reach.specs.Reaches.{IsInOrder, IsOfStep, IsAsFar}
@@ -26,7 +26,7 @@ waits_on_grows steps roots settled f g n about is grown waits number later at ma
     waits number file known (sym grows.maker ∙ made) so
 
 -- one part of the work, and then another
-pub goes_then : {T S : Type 0} {notes : Bool} (plan : Plan) (settled : ℕ → Type 0) (r q p : Reach) (s t w : Sights) (x y z : Outside) (v : T) (result : Result S Stop) → IsAbout plan.steps plan.roots s.facts → Goes notes plan settled r s x q t y (Ok v) → Goes notes plan settled q t y p w z result → Goes notes plan settled r s x p w z result
+pub goes_then : {T S : Type 0} {notes : Bool} (plan : Plan) (settled : ℕ → Type 0) (r q p : Reach) (s t w : Sights) (x y z : Outside) (v : T) (result : Result S FilesStop) → IsAbout plan.steps plan.roots s.facts → Goes notes plan settled r s x q t y (Ok v) → Goes notes plan settled q t y p w z result → Goes notes plan settled r s x p w z result
 goes_then plan settled r q p s t w x y z v result about a b = record {
   takes = takes_then plan settled t.facts w.facts r q p b.grows.learns.grows a.takes b.takes;
   waiting = λ n among. elim (b.waiting n among) [
@@ -40,10 +40,10 @@ goes_then plan settled r q p s t w x y z v result about a b = record {
 }
 
 -- a stop is handed on
-pub goes_err : {T S : Type 0} {notes : Bool} (plan : Plan) (settled : ℕ → Type 0) (r q : Reach) (s t : Sights) (x y : Outside) (stop : Stop) → Goes {T = T} notes plan settled r s x q t y (Err stop) → Goes {T = S} notes plan settled r s x q t y (Err stop)
+pub goes_err : {T S : Type 0} {notes : Bool} (plan : Plan) (settled : ℕ → Type 0) (r q : Reach) (s t : Sights) (x y : Outside) (stop : FilesStop) → Goes {T = T} notes plan settled r s x q t y (Err stop) → Goes {T = S} notes plan settled r s x q t y (Err stop)
 goes_err {T} {S} plan settled r q s t x y stop a = record { takes = a.takes; waiting = a.waiting; grows = grows_err {T = T} {S = S} plan.steps plan.roots settled q.members s t x y stop a.grows }
 
-pub goes_err_as : {T S : Type 0} {plan : Plan} {settled : ℕ → Type 0} {r q : Reach} {s t : Sights} {x y : Outside} {notes : Bool} (stop : Stop) (result : Result S Stop) → result ≡ Err stop → Goes {T = T} notes plan settled r s x q t y (Err stop) → Goes {T = S} notes plan settled r s x q t y result
+pub goes_err_as : {T S : Type 0} {plan : Plan} {settled : ℕ → Type 0} {r q : Reach} {s t : Sights} {x y : Outside} {notes : Bool} (stop : FilesStop) (result : Result S FilesStop) → result ≡ Err stop → Goes {T = T} notes plan settled r s x q t y (Err stop) → Goes {T = S} notes plan settled r s x q t y result
 goes_err_as {T} {S} {plan} {settled} {r} {q} {s} {t} {x} {y} {notes} stop result is a = subst (Goes {T = S} notes plan settled r s x q t y) (sym is) (goes_err {T = T} {S = S} plan settled r q s t x y stop a)
 
 pub goes_ok : {T S : Type 0} {notes : Bool} (plan : Plan) (settled : ℕ → Type 0) (r q : Reach) (s t : Sights) (x y : Outside) (v : T) (u : S) → Goes notes plan settled r s x q t y (Ok v) → Goes notes plan settled r s x q t y (Ok u)
@@ -62,7 +62,7 @@ pub goes_stop : {T S : Type 0} {plan : Plan} {settled : ℕ → Type 0} {r q : R
 goes_stop {T} {S} v a = record { takes = a.takes; waiting = a.waiting; grows = grows_stop {T = T} {S = S} v a.grows }
 
 -- other members are pending, each of which waits on
-pub goes_dropped : {T : Type 0} {notes : Bool} (plan : Plan) (settled : ℕ → Type 0) (r q : Reach) (s t : Sights) (x y : Outside) (result : Result T Stop) (kept : List ℕ) → IsInOrder plan.steps settled t.facts (record q { pending = kept }) → ((n : ℕ) → Contains kept n → WaitsOn settled t.facts n)
+pub goes_dropped : {T : Type 0} {notes : Bool} (plan : Plan) (settled : ℕ → Type 0) (r q : Reach) (s t : Sights) (x y : Outside) (result : Result T FilesStop) (kept : List ℕ) → IsInOrder plan.steps settled t.facts (record q { pending = kept }) → ((n : ℕ) → Contains kept n → WaitsOn settled t.facts n)
     → Goes notes plan settled r s x q t y result → Goes notes plan settled r s x (record q { pending = kept }) t y result
 goes_dropped plan settled r q s t x y result kept order waits a = record {
   takes = record { in_order = order; gathers = (let g = a.takes.gathers in record { list = g.list; added = g.added; members = g.members; each = g.each }) };
@@ -71,7 +71,7 @@ goes_dropped plan settled r q s t x y result kept order waits a = record {
 }
 
 -- all is done that can be, where the pending members wait on
-pub far_after : {T : Type 0} {notes : Bool} (plan : Plan) (settled : ℕ → Type 0) (q p : Reach) (t w : Sights) (y z : Outside) (result : Result T Stop) → IsAbout plan.steps plan.roots t.facts → IsInOrder plan.steps settled t.facts q → ((n : ℕ) → Contains q.pending n → WaitsOn settled t.facts n)
+pub far_after : {T : Type 0} {notes : Bool} (plan : Plan) (settled : ℕ → Type 0) (q p : Reach) (t w : Sights) (y z : Outside) (result : Result T FilesStop) → IsAbout plan.steps plan.roots t.facts → IsInOrder plan.steps settled t.facts q → ((n : ℕ) → Contains q.pending n → WaitsOn settled t.facts n)
     → Goes notes plan settled q t y p w z result → OnOk result (p.done ≡ length p.members) → OnOk result (IsAsFar settled w.facts p)
 far_after plan settled q p t w y z (Err stop) about order waits a whole = tt
 far_after plan settled q p t w y z (Ok v) about order waits a whole = record {
@@ -83,7 +83,7 @@ far_after plan settled q p t w y z (Ok v) about order waits a whole = record {
 }
 
 -- a member was taken
-pub goes_taken : {notes : Bool} (plan : Plan) (settled : ℕ → Type 0) (number : ℕ) (r q : Reach) (s t : Sights) (x y : Outside) (result : Result Due Stop) → Takes notes plan settled number r s x q t y result → Goes notes plan settled r s x q t y result
+pub goes_taken : {notes : Bool} (plan : Plan) (settled : ℕ → Type 0) (number : ℕ) (r q : Reach) (s t : Sights) (x y : Outside) (result : Result Due FilesStop) → Takes notes plan settled number r s x q t y result → Goes notes plan settled r s x q t y result
 goes_taken plan settled number r q s t x y result took = record {
   takes = took.takes;
   waiting = λ n among. inl (subst (λ l. Contains l n) (ap (λ (p : Reach). p.pending) took.same) among);
@@ -91,5 +91,5 @@ goes_taken plan settled number r q s t x y result took = record {
 }
 
 -- the work stays on its step
-pub goes_of_step : {T : Type 0} {notes : Bool} (plan : Plan) (settled : ℕ → Type 0) (r q : Reach) (s t : Sights) (x y : Outside) (result : Result T Stop) → Goes notes plan settled r s x q t y result → (step : Step) → IsOfStep plan.steps settled step s.facts r → IsOfStep plan.steps settled step t.facts q
+pub goes_of_step : {T : Type 0} {notes : Bool} (plan : Plan) (settled : ℕ → Type 0) (r q : Reach) (s t : Sights) (x y : Outside) (result : Result T FilesStop) → Goes notes plan settled r s x q t y result → (step : Step) → IsOfStep plan.steps settled step s.facts r → IsOfStep plan.steps settled step t.facts q
 goes_of_step plan settled r q s t x y result a step is = of_step_grows plan.steps settled settled step s.facts t.facts r q (λ k so. so) a.grows.learns.grows a.takes.gathers is

@@ -16,10 +16,10 @@ use Rattle.b2_log.specs.Lines.{spelling}
 use Rattle.b2_log.specs.Good.{IsGood}
 use Rattle.b2_log.specs.Finding.{find_scan}
 use Rattle.b2_facts.specs.declared.file_facts.FileFacts.{FileFacts}
-use Rattle.b2_facts.specs.declared.file_facts.Seen.TheVariants as seen
+use Rattle.b2_facts.specs.declared.file_facts.FileLook.TheVariants as seen
 use Rattle.b2_facts.specs.Facts.{Knowledge, IsFile}
 use Rattle.b2_journal.specs.Notes.{HasLines, IsNoteCut, Notes}
-use Rattle.b2_facts.specs.declared.stop.Stop.{Stop}
+use Rattle.b2_facts.specs.declared.stop.FilesStop.{FilesStop}
 use Rattle.b2_reach.specs.Files.{IsAtHand}
 
 -- A member is to be read: it is scanned, at hand, and was seen to stand with this stamp, for which the log has no scan line.
@@ -78,7 +78,7 @@ pub data CourseToStop (notes : Bool) (steps : List Step) (settled : ℕ → Type
 
 -- how they go on, by the result
 abbrev pub CourseTold : {T : Type 0} → Bool → List Step → (ℕ → Type 0) → Knowledge → List ℕ → List LogLine → Outside
-    → List LogLine → Outside → Result T Stop → Type 0
+    → List LogLine → Outside → Result T FilesStop → Type 0
 CourseTold notes steps settled f members log before more after (Ok x) =
     Course notes steps settled f members log before more after
 CourseTold notes steps settled f members log before more after (Err stop) =

@@ -18,7 +18,7 @@ use Rattle.b2_runs.specs.FileReads.{StandsWithLine}
 use Rattle.jam_scan.specs.Scans.{is_scanned}
 use Rattle.b2_sched.specs.Schedules.{Schedule, IsSettled}
 use Rattle.b2_facts.specs.declared.file_facts.FileFacts.{FileFacts}
-use Rattle.b2_facts.specs.declared.file_facts.Seen.TheVariants as seen
+use Rattle.b2_facts.specs.declared.file_facts.FileLook.TheVariants as seen
 use Rattle.b2_facts.specs.Facts.{Knowledge, IsAbout, path_at, file_at, with_file}
 use Rattle.b2_facts.specs.Growth.{OfNone}
 use Rattle.b2_facts.specs.Growth as facts

@@ -3,7 +3,7 @@ use Rattle.std.specs.Prelude.{◌≡◌, ◌≢◌, ℕ, ◌<◌, ◌≤◌, tru
 use Rattle.std.specs.List.{Contains, AllPairs}
 use Rattle.b2_plan.specs.declared.step.Step.{Step}
 use Rattle.b2_facts.specs.declared.file_facts.FileFacts.{FileFacts}
-use Rattle.b2_facts.specs.declared.file_facts.Seen.TheVariants as seen
+use Rattle.b2_facts.specs.declared.file_facts.FileLook.TheVariants as seen
 use Rattle.b2_facts.specs.Facts.{Knowledge, IsNumber, IsList, path_at, file_at, dirs_at, found_at}
 use Rattle.b2_facts.specs.Asks.{IsGivenBy, IsNotGivenBy}
 use Rattle.b2_reach.specs.Files.{IsOwedBy, IsOwedByNone, IsAtHand}

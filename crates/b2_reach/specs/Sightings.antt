@@ -15,14 +15,14 @@ use Rattle.b2_log.specs.Finding.{find_scan}
 use Rattle.b2_runs.specs.Logs.{ScansTrue}
 use Rattle.b2_runs.specs.Staleness.{Update, making}
 use Rattle.b2_facts.specs.declared.file_facts.FileFacts.{FileFacts}
-use Rattle.b2_facts.specs.declared.file_facts.Seen.TheVariants as seen
+use Rattle.b2_facts.specs.declared.file_facts.FileLook.TheVariants as seen
 use Rattle.b2_facts.specs.declared.fault.ReadFault.TheVariants as faults
 use Rattle.b2_facts.specs.Facts.{Knowledge, IsFile, IsRead, IsBlank, IsAbout, found_at}
 use Rattle.b2_facts.specs.Growth.{Learns}
 use Rattle.b2_facts.specs.Truth.{IsBuildOf, KeepsSources, AreTrue}
 use Rattle.b2_facts.specs.Asks.{IsTooBigFor}
-use Rattle.b2_facts.specs.declared.stop.Stop.{Stop}
-use Rattle.b2_facts.specs.declared.stop.Stop.TheVariants as stops
+use Rattle.b2_facts.specs.declared.stop.FilesStop.{FilesStop}
+use Rattle.b2_facts.specs.declared.stop.FilesStop.TheVariants as stops
 use Rattle.b2_reach.specs.declared.sights.Sights.{Sights}
 use Rattle.b2_reach.specs.Files.{IsAtHand, IsNumberAtHand}
 use Rattle.b2_facts.specs.Stops.{StopTold}
@@ -82,7 +82,7 @@ pub record IsTooBigTold (steps : List Step) (settled : ℕ → Type 0) (f : Know
   pub told : IfSome after.disk (λ disk. IsTooBigFor 16777216 path disk.now (faults.TooBig size))
 
 -- where a stop says so
-abbrev pub TellsTooBig : {T : Type 0} → List Step → (ℕ → Type 0) → Knowledge → List ℕ → Outside → Result T Stop → Type 0
+abbrev pub TellsTooBig : {T : Type 0} → List Step → (ℕ → Type 0) → Knowledge → List ℕ → Outside → Result T FilesStop → Type 0
 TellsTooBig steps settled f members after (Ok x) = ⊤
 TellsTooBig steps settled f members after (Err stops.Host) = ⊤
 TellsTooBig steps settled f members after (Err stops.OutOfMemory) = ⊤
@@ -96,7 +96,7 @@ TellsTooBig steps settled f members after (Err (stops.TooBig number size)) =
 -- lines are not noted, it does not change. Where they are and work did not stop, the log goes on to have the line of each file of
 -- which is known what it includes.
 pub record LearnsMore {T : Type 0} (notes : Bool) (steps : List Step) (roots : List (List ℕ)) (settled : ℕ → Type 0)
-    (members : List ℕ) (s : Sights) (before : Outside) (t : Sights) (after : Outside) (result : Result T Stop) : Type 0 where
+    (members : List ℕ) (s : Sights) (before : Outside) (t : Sights) (after : Outside) (result : Result T FilesStop) : Type 0 where
   pub only_log : ChangesOnlyLog before after
   pub faults : StopTold before after result
   pub learns : Learns steps roots (IsNumberAtHand steps settled t.facts) s.facts t.facts

@@ -7,12 +7,12 @@ use Rattle.b2_plan.specs.declared.step.Step.{Step}
 use Rattle.b2_plan.specs.declared.plan.Plan.{Plan}
 use Rattle.b2_sched.specs.Schedules.{Schedule}
 use Rattle.b2_facts.specs.declared.file_facts.FileFacts.{FileFacts}
-use Rattle.b2_facts.specs.declared.file_facts.Seen.TheVariants as seen
+use Rattle.b2_facts.specs.declared.file_facts.FileLook.TheVariants as seen
 use Rattle.b2_facts.specs.Facts.{Knowledge, file_at, found_at}
 use Rattle.b2_reach.specs.declared.reach.Reach.{Reach}
 use Rattle.b2_reach.specs.declared.due.Due.{Due}
 use Rattle.b2_reach.specs.declared.due.Due.TheVariants as dues
-use Rattle.b2_facts.specs.declared.stop.Stop.{Stop}
+use Rattle.b2_facts.specs.declared.stop.FilesStop.{FilesStop}
 use Rattle.b2_reach.specs.declared.sights.Sights.{Sights}
 use Rattle.b2_reach.specs.Reaches.{IsDone, IsInOrder, Gathers}
 use Rattle.b2_reach.specs.Dues.{IsAfter}
@@ -75,7 +75,7 @@ with_due r number dues.Read = record r { done = r.done + 1 }
 
 -- A member was taken: what was due with it is done, unless the work stopped.
 pub record Takes (notes : Bool) (plan : Plan) (settled : ℕ → Type 0) (number : ℕ) (r : Reach) (s : Sights) (before : Outside)
-    (q : Reach) (t : Sights) (after : Outside) (result : Result Due Stop) : Type 0 where
+    (q : Reach) (t : Sights) (after : Outside) (result : Result Due FilesStop) : Type 0 where
   pub same : ChangesMembers r q
   pub takes : TakesIn plan settled t.facts r q
   pub after_due : IfOk result (λ due. (file : FileFacts) → file_at t.facts number ≡ Some file
@@ -86,7 +86,7 @@ pub record Takes (notes : Bool) (plan : Plan) (settled : ℕ → Type 0) (number
 -- The work went on, or stopped: members came in, of those that are pending now each was so before or waits on, and what is known
 -- has grown.
 pub record Goes {T : Type 0} (notes : Bool) (plan : Plan) (settled : ℕ → Type 0) (r : Reach) (s : Sights) (before : Outside)
-    (q : Reach) (t : Sights) (after : Outside) (result : Result T Stop) : Type 0 where
+    (q : Reach) (t : Sights) (after : Outside) (result : Result T FilesStop) : Type 0 where
   pub takes : TakesIn plan settled t.facts r q
   pub waiting : WaitMore settled t.facts r.pending q.pending
   pub grows : LearnsMore notes plan.steps plan.roots settled q.members s before t after result

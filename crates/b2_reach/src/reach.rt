@@ -20,7 +20,7 @@ use b2_base::fault::OutOfMemory;
 use b2_base::list::List;
 use b2_base::path::Path;
 use b2_facts::facts::Facts;
-use b2_facts::stop::Stop;
+use b2_facts::stop::FilesStop;
 use b2_host::fault::Failed;
 use b2_host::files::Files;
 use b2_paths::marks::Marks;
@@ -65,7 +65,7 @@ fn look<F: Files>(
     sights: &mut Sights,
     files: &mut F,
     number: u32,
-) -> Result<Due, Stop>
+) -> Result<Due, FilesStop>
     requires about { IsAbout plan.now.steps plan.now.roots sights.old.facts }
     requires schedule { IsOfPlan plan.now sched.now }
     requires number { IsNumber sights.old.facts number }
@@ -198,7 +198,7 @@ impl Reach {
         files: &mut F,
         number: u32,
         notes: bool,
-    ) -> Result<(), Stop>
+    ) -> Result<(), FilesStop>
         requires list { IsList sights.old.facts self.old.list }
         requires number { IsNumber sights.old.facts number }
         requires known { (file : FileFacts) × (file_at sights.old.facts number ≡ Some file) × (file.scanned ≡ true) }
@@ -228,7 +228,7 @@ impl Reach {
         files: &mut F,
         number: u32,
         notes: bool,
-    ) -> Result<Due, Stop>
+    ) -> Result<Due, FilesStop>
         requires about { IsAbout plan.now.steps plan.now.roots sights.old.facts }
         requires schedule { IsOfPlan plan.now sched.now }
         requires in_order { IsInOrder plan.now.steps (IsSettled sched.now) sights.old.facts self.old }
@@ -272,7 +272,7 @@ impl Reach {
         sights: &mut Sights,
         files: &mut F,
         notes: bool,
-    ) -> Result<(), Stop>
+    ) -> Result<(), FilesStop>
         requires about { IsAbout plan.now.steps plan.now.roots sights.old.facts }
         requires schedule { IsOfPlan plan.now sched.now }
         requires in_order { IsInOrder plan.now.steps (IsSettled sched.now) sights.old.facts self.old }
@@ -298,7 +298,7 @@ impl Reach {
         sights: &mut Sights,
         files: &mut F,
         notes: bool,
-    ) -> Result<(), Stop>
+    ) -> Result<(), FilesStop>
         requires about { IsAbout plan.now.steps plan.now.roots sights.old.facts }
         requires schedule { IsOfPlan plan.now sched.now }
         requires in_order { IsInOrder plan.now.steps (IsSettled sched.now) sights.old.facts self.old }
@@ -322,7 +322,7 @@ impl Reach {
         sights: &mut Sights,
         files: &mut F,
         notes: bool,
-    ) -> Result<(), Stop>
+    ) -> Result<(), FilesStop>
         requires about { IsAbout plan.now.steps plan.now.roots sights.old.facts }
         requires schedule { IsOfPlan plan.now sched.now }
         requires in_order { IsInOrder plan.now.steps (IsSettled sched.now) sights.old.facts self.old }
@@ -397,7 +397,7 @@ impl Reach {
         sights: &mut Sights,
         files: &mut F,
         notes: bool,
-    ) -> Result<(), Stop>
+    ) -> Result<(), FilesStop>
         requires about { IsAbout plan.now.steps plan.now.roots sights.old.facts }
         requires schedule { IsOfPlan plan.now sched.now }
         requires in_order { IsInOrder plan.now.steps (IsSettled sched.now) sights.old.facts self.old }
@@ -421,7 +421,7 @@ impl Reach {
         sights: &mut Sights,
         files: &mut F,
         notes: bool,
-    ) -> Result<(), Stop>
+    ) -> Result<(), FilesStop>
         requires about { IsAbout plan.now.steps plan.now.roots sights.old.facts }
         requires schedule { IsOfPlan plan.now sched.now }
         requires in_order { IsInOrder plan.now.steps (IsSettled sched.now) sights.old.facts self.old }
@@ -486,7 +486,7 @@ impl Reach {
         sights: &mut Sights,
         files: &mut F,
         notes: bool,
-    ) -> Result<(), Stop>
+    ) -> Result<(), FilesStop>
         requires about { IsAbout plan.now.steps plan.now.roots sights.old.facts }
         requires schedule { IsOfPlan plan.now sched.now }
         requires in_order { IsInOrder plan.now.steps (IsSettled sched.now) sights.old.facts self.old }

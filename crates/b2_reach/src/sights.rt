@@ -2,14 +2,14 @@
 ghost use Rattle.std.specs.Prelude.{◌≡◌, [], ◌∷◌, ℕ, List as Items, Bool, true, false, Some, None, IfOk};
 ghost use Rattle.b2_plan.specs.declared.step.Step.{Step};
 ghost use Rattle.b2_facts.specs.declared.file_facts.FileFacts.{FileFacts};
-ghost use Rattle.b2_facts.specs.declared.file_facts.Seen.TheVariants as seen;
+ghost use Rattle.b2_facts.specs.declared.file_facts.FileLook.TheVariants as seen;
 ghost use Rattle.b2_facts.specs.Facts.{IsNumber, IsList, IsRead, file_at, found_at};
 ghost use Rattle.b2_reach.specs.Files.{IsAtHand, IsMakerOf};
 ghost use Rattle.b2_reach.specs.Sightings.{LearnsMore, IsReadOrGone, IsFoundOrGone};
 
 use b2_facts::facts::Facts;
-use b2_facts::scans::Scanned;
-use b2_facts::stop::{Stop, stop_of_read};
+use b2_facts::scans::ScanAnswer;
+use b2_facts::stop::{FilesStop, stop_of_read};
 use b2_host::files::Files;
 use b2_journal::journal::Journal;
 use b2_log::line::LogLine;
@@ -53,7 +53,7 @@ impl Sights {
         files: &mut F,
         number: u32,
         notes: bool,
-    ) -> Result<bool, Stop>
+    ) -> Result<bool, FilesStop>
         requires number { IsNumber self.old.facts number }
         requires known { (file : FileFacts) × (file_at self.old.facts number ≡ Some file) × (file.scanned ≡ true) }
         ensures marks { self.new.marks ≡ self.old.marks }
@@ -69,15 +69,15 @@ impl Sights {
             .facts
             .scan(alloc, files, self.journal.log(), number, self.by_digest)
         {
-            Ok(Scanned::Known) => Ok(true),
-            Ok(Scanned::Read(line)) => {
+            Ok(ScanAnswer::Known) => Ok(true),
+            Ok(ScanAnswer::Read(line)) => {
                 if !notes {
                     return Ok(true);
                 }
                 self.journal.note(files, LogLine::Scan(line))?;
                 Ok(true)
             }
-            Ok(Scanned::Gone) => Ok(self.facts.file(number).includes.is_some()),
+            Ok(ScanAnswer::Gone) => Ok(self.facts.file(number).includes.is_some()),
             Err(fault) => Err(stop_of_read(fault, number)),
         }
     }
@@ -90,7 +90,7 @@ impl Sights {
         files: &mut F,
         list: u32,
         number: u32,
-    ) -> Result<(), Stop>
+    ) -> Result<(), FilesStop>
         requires list { IsList self.old.facts list }
         requires number { IsNumber self.old.facts number }
         requires read { (file : FileFacts) → file_at self.old.facts number ≡ Some file → IsRead file }
@@ -113,7 +113,7 @@ impl Sights {
         list: u32,
         number: u32,
         notes: bool,
-    ) -> Result<(), Stop>
+    ) -> Result<(), FilesStop>
         requires list { IsList self.old.facts list }
         requires number { IsNumber self.old.facts number }
         requires known { (file : FileFacts) × (file_at self.old.facts number ≡ Some file) × (file.scanned ≡ true) }

@@ -1,11 +1,11 @@
 use Rattle.std.specs.Prelude.{ℕ, List, true, None, map}
 use Rattle.b2_host.specs.declared.children.ChildEvent.{ChildEvent}
 use Rattle.b2_host.specs.Outside.{Outside}
-use Rattle.b2_realhost.specs.declared.job.Job.{Job}
+use Rattle.b2_realhost.specs.declared.system_job.SystemJob.{SystemJob}
 use Rattle.b2_realhost.specs.Jobs.{child_of}
 
 -- what the real host is to its callers: its files and reads are not visible, and all may go wrong
-abbrev pub outside_of : List Job → List ChildEvent → ℕ → ℕ → Outside
+abbrev pub outside_of : List SystemJob → List ChildEvent → ℕ → ℕ → Outside
 outside_of jobs events faults failed_waits = record {
   disk = None;
   reads = None;

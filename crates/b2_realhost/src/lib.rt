@@ -9,10 +9,10 @@
 #![tactic(auto)]
 
 mod fault_count;
-mod job;
 mod listing;
 mod real_files;
 pub mod real_host;
 pub mod real_sink;
 mod system_files;
+mod system_job;
 mod waiting;

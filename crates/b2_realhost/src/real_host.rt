@@ -2,9 +2,9 @@
 ghost use Rattle.std.specs.Prelude.{◌≡◌, ◌+◌, ◌≤◌, [], length, vec_len, vec_capacity};
 ghost use Rattle.b2_realhost.specs.RealOutside.{outside_of};
 
-use crate::job::Job;
 use crate::real_files::RealFiles;
 use crate::system_files::make_parent;
+use crate::system_job::SystemJob;
 use crate::waiting::wait_any;
 use b2_base::path::Path;
 use b2_base::text_list::TextList;
@@ -24,7 +24,7 @@ const SHELL: &str = "/bin/sh";
 #[derive(Drop)]
 pub struct RealHost<R: Disk + AllocGlobal + Clone + Drop> {
     files: RealFiles<R>,
-    jobs: Vec<Job>,
+    jobs: Vec<SystemJob>,
     processes: Vec<Child>,
     events: Vec<ChildEvent>,
     failed_waits: u64,
@@ -124,7 +124,7 @@ where
         self.events.reserve(self.jobs.len() + 2)?;
         self.jobs.reserve(1)?;
         self.processes.reserve(1)?;
-        let job = Job::new(self.files.rt.alloc(), step, ins, outs)?;
+        let job = SystemJob::new(self.files.rt.alloc(), step, ins, outs)?;
         match spawn(&self.files.rt, text, outs) {
             Err(error) => Err(self.files.faults.fault(&error)),
             Ok(process) => {

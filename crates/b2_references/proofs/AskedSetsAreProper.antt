@@ -2,14 +2,14 @@
 use Rattle.std.proofs.Common.{◌≡◌, ℕ, List, [], ◌∷◌, ◌++◌, map, length, refl, arith}
 use Rattle.std.specs.List.{AllByRecursion, flat_map}
 use Rattle.b2_features.specs.Table.{HasDistinctNames}
-use Rattle.b2_metatargets.specs.declared.whole.Declared.{Declared}
+use Rattle.b2_declared.specs.declared.whole.Declared.{Declared}
 use Rattle.b2_props.specs.Requests.{product}
 use Rattle.b2_props.specs.Sets.{Pair, IsSet, set_of, value_of}
 use Rattle.b2_props.proofs.WrittenValuesMakeASet.{made_set}
-use Rattle.b2_references.specs.declared.asked.Asked.TheVariants.{Main}
+use Rattle.b2_references.specs.declared.asked.AskedPiece.TheVariants.{Main}
 use Rattle.b2_references.specs.declared.meaning.Meaning.{Meaning}
 use Rattle.b2_references.specs.declared.meaning.Meaning.TheVariants.{File, Targets, Nothing}
-use Rattle.b2_references.specs.declared.word.Word.{Word}
+use Rattle.b2_references.specs.declared.request_word.RequestWord.{RequestWord}
 use Rattle.b2_references.specs.Names.{Name}
 use Rattle.b2_references.specs.Requests.{open_values, sets_for, asked_for, asked_by, asked_of, asked, named_by, word_of, root_word, HasSet}
 
@@ -56,7 +56,7 @@ module _ (d : Declared) (distinct : HasDistinctNames d.registry) where
   of_word set word (File path) = (tt, tt)
   of_word set word Nothing = (tt, tt)
 
-  of_words : (set : List Pair) (words : List Word) → AllByRecursion (HasSet d.registry) (asked_of d words set)
+  of_words : (set : List Pair) (words : List RequestWord) → AllByRecursion (HasSet d.registry) (asked_of d words set)
   of_words set [] = tt
   of_words set (w ∷ words) = all_append (HasSet d.registry) (asked_by d set w.text w.meaning) (asked_of d words set) (of_word set w.text w.meaning) (of_words set words)
 

@@ -10,10 +10,10 @@ use Rattle.std.proofs.lemmas.List.{append-nil, map-append, get_or-set_other, len
 use Rattle.std.proofs.lemmas.List.Elements.{filter-append, All-from_recursion, recursion_from_All}
 use Rattle.std.proofs.lemmas.Grind.{get_or-set_at}
 use Rattle.std.proofs.lemmas.Option.{slice_get_within, get_or_from_slice_get, slice_get_read}
-use Rattle.b2_metatargets.specs.declared.place.Place.{Place}
-use Rattle.b2_metatargets.specs.declared.place.Target.{Target}
+use Rattle.b2_declared.specs.declared.place.Place.{Place}
+use Rattle.b2_declared.specs.declared.place.Target.{Target}
 use Rattle.b2_props.proofs.RepeatedPairsAddNothing.{text_is}
-use Rattle.b2_references.specs.declared.entries.Entry.{Entry}
+use Rattle.b2_references.specs.declared.entries.ProjectTargets.{ProjectTargets}
 use Rattle.b2_references.specs.Indexing.{some_of, named_in, targets_in, no_entry, IsEntry, AreEntries}
 use Rattle.b2_references.specs.Names.{Name, is_same, is_among, first_names, name_of, numbers_from}
 use Rattle.b2_references.proofs.FiltersKeepFirstNames.{number_is, number_itself, number_sym, first_names_push}
@@ -106,7 +106,7 @@ has_numbers first project name (t ∷ ts) = ap (λ b. is_some (some_of (cond (b 
 
 module _ (ts : List Target) (t : Target) where
   -- one more main target of the project
-  pub entry_push : (k : ℕ) (old new : Entry) → k ≡ length ts → IsEntry ts t.project old
+  pub entry_push : (k : ℕ) (old new : ProjectTargets) → k ≡ length ts → IsEntry ts t.project old
       → ((other : List ℕ) → get new.numbers other ≡ cond (bytes_eq other t.name) (Some (unwrap_or (get old.numbers t.name) [] ++ k ∷ [])) (get old.numbers other))
       → new.names ≡ cond (is_some (get old.numbers t.name)) old.names (old.names ++ t.name ∷ [])
       → IsEntry (ts ++ t ∷ []) t.project new
@@ -144,7 +144,7 @@ module _ (ts : List Target) (t : Target) where
           ∙ ap (λ b. cond b (first_names (map name_of (targets_in t.project ts))) (first_names (map name_of (targets_in t.project ts)) ++ name_of t ∷ [])) (sym f ∙ among) ∙ sym push
 
   -- one more main target of another project
-  pub entry_stays : (project : ℕ) (entry : Entry) → eqb t.project project ≡ false → IsEntry ts project entry → IsEntry (ts ++ t ∷ []) project entry
+  pub entry_stays : (project : ℕ) (entry : ProjectTargets) → eqb t.project project ≡ false → IsEntry ts project entry → IsEntry (ts ++ t ∷ []) project entry
   entry_stays project entry other is = record {
     numbers = λ name.
         is.numbers name
@@ -153,10 +153,10 @@ module _ (ts : List Target) (t : Target) where
   }
 
   -- the entries of all projects
-  pub entries_push : (entries : List Entry) (new : Entry) → t.project < length entries → AreEntries ts entries → IsEntry (ts ++ t ∷ []) t.project new → AreEntries (ts ++ t ∷ []) (set entries t.project new)
+  pub entries_push : (entries : List ProjectTargets) (new : ProjectTargets) → t.project < length entries → AreEntries ts entries → IsEntry (ts ++ t ∷ []) t.project new → AreEntries (ts ++ t ∷ []) (set entries t.project new)
   entries_push entries new within are is = record { each = λ project entry at. go project entry at (eqb t.project project) refl }
     where
-      go : (project : ℕ) (entry : Entry) → slice_get (set entries t.project new) project ≡ Some entry → (b : Bool) → eqb t.project project ≡ b → IsEntry (ts ++ t ∷ []) project entry
+      go : (project : ℕ) (entry : ProjectTargets) → slice_get (set entries t.project new) project ≡ Some entry → (b : Bool) → eqb t.project project ≡ b → IsEntry (ts ++ t ∷ []) project entry
       go project entry at true f =
           let same : new ≡ entry = sym (get_or-set_at entries t.project project new entry (sym (number_is t.project project f)) within) ∙ get_or_from_slice_get (set entries t.project new) project entry entry at in
           subst (λ e. IsEntry (ts ++ t ∷ []) project e) same (subst (λ q. IsEntry (ts ++ t ∷ []) q new) (number_is t.project project f) is)
@@ -191,12 +191,12 @@ none_of project bound less (t ∷ ts) all = go (none_of project bound less ts al
     go more false e = more
     go more true e = absurd (omega (arith, all.0, less, number_is t.project project e))
 
-module _ (ts : List Target) (entries : List Entry) (project : ℕ) where
+module _ (ts : List Target) (entries : List ProjectTargets) (project : ℕ) where
   -- a project that is not there has no main targets
   pub none_in : (places : List Place) → length entries ≡ length places → All (λ t. t.project < length places) ts → slice_get entries project ≡ None → targets_in project ts ≡ []
   none_in places each within none = none_of project (length places) (omega (arith, each, past entries project none)) ts (recursion_from_All (λ t. t.project < length places) ts within)
 
-pub no_numbers : (ts : List Target) (entries : List Entry) (project : ℕ) (name : List ℕ) (places : List Place) → length entries ≡ length places → All (λ t. t.project < length places) ts → slice_get entries project ≡ None → numbers_from 0 (project, name) ts ≡ []
+pub no_numbers : (ts : List Target) (entries : List ProjectTargets) (project : ℕ) (name : List ℕ) (places : List Place) → length entries ≡ length places → All (λ t. t.project < length places) ts → slice_get entries project ≡ None → numbers_from 0 (project, name) ts ≡ []
 no_numbers ts entries project name places each within none = go (numbers_from 0 (project, name) ts) (has_numbers 0 project name ts ∙ ap (λ xs. is_among (map name_of xs) (project, name)) (none_in ts entries project places each within none))
   where
     go : (ns : List ℕ) → is_some (some_of ns) ≡ false → ns ≡ []
@@ -204,12 +204,12 @@ no_numbers ts entries project name places each within none = go (numbers_from 0 
     go (n ∷ ns) e = cc
 
 -- entries that have nothing
-all_empty : (es : List Entry) → AllByRecursion (λ e. e ≡ no_entry) es → (project : ℕ) (entry : Entry) → slice_get es project ≡ Some entry → entry ≡ no_entry
+all_empty : (es : List ProjectTargets) → AllByRecursion (λ e. e ≡ no_entry) es → (project : ℕ) (entry : ProjectTargets) → slice_get es project ≡ Some entry → entry ≡ no_entry
 all_empty [] all project entry e = cc
 all_empty (x ∷ es) all zero entry e = let f : x ≡ entry = cc in sym f ∙ all.0
 all_empty (x ∷ es) all (suc project) entry e = all_empty es all.1 project entry e
 
-pub empty_entries_are : (es : List Entry) → All (λ e. e ≡ no_entry) es → AreEntries [] es
+pub empty_entries_are : (es : List ProjectTargets) → All (λ e. e ≡ no_entry) es → AreEntries [] es
 empty_entries_are es all = record { each = λ project entry at. subst (IsEntry [] project) (sym (all_empty es (recursion_from_All (λ e. e ≡ no_entry) es all) project entry at)) (empty project) }
   where
     empty : (project : ℕ) → IsEntry [] project no_entry

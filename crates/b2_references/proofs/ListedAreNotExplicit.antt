@@ -3,8 +3,8 @@ use Rattle.std.proofs.Common.{◌≡◌, ℕ, Bool, true, false, cond, not, List
 use Rattle.std.specs.List.{filter, list_any, slice_get}
 use Rattle.std.specs.Option.{option_map_or}
 use Rattle.std.specs.Str.{bytes_eq}
-use Rattle.b2_metatargets.specs.declared.place.Place.{Place}
-use Rattle.b2_metatargets.specs.declared.whole.Declared.{Declared}
+use Rattle.b2_declared.specs.declared.place.Place.{Place}
+use Rattle.b2_declared.specs.declared.whole.Declared.{Declared}
 use Rattle.b2_references.specs.Indexing.{named_in, targets_in}
 use Rattle.b2_references.specs.Names.{Name, name_of, first_names}
 use Rattle.b2_references.specs.References.{is_explicit, listed_targets}

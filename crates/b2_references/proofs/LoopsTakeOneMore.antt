@@ -12,9 +12,9 @@ use Rattle.std.proofs.lemmas.List.Concat.{flat_map-append}
 use Rattle.std.proofs.lemmas.List.Elements.{filter-append}
 use Rattle.std.proofs.lemmas.List.Folds.{list_any-append}
 use Rattle.std.proofs.lemmas.Option.{slice_get_read, slice_get-get_or}
-use Rattle.b2_metatargets.specs.declared.place.Place.{Place}
+use Rattle.b2_declared.specs.declared.place.Place.{Place}
 use Rattle.b2_features.specs.declared.attribute.Attribute.TheVariants.{Free}
-use Rattle.b2_features.specs.Table.{Declared}
+use Rattle.b2_features.specs.Table.{DeclaredFeature}
 use Rattle.b2_features.specs.Faults.{is_with}
 use Rattle.b2_features.proofs.ListSearchesAgree.{position-push}
 use Rattle.b2_features.proofs.NewValuesKeepAllApart.{get_put}
@@ -27,7 +27,7 @@ use Rattle.b2_props.proofs.RepeatedPairsAddNothing.{text_is, text_sym, option_or
 use Rattle.b2_props.proofs.RowsGrowChoiceByChoice.{product-push}
 use Rattle.b2_references.specs.Names.{first_list, lineage_in}
 use Rattle.b2_references.specs.Requests.{choosable}
-use Rattle.b2_texts.specs.Missing.{missing}
+use Rattle.b2_property_texts.specs.Missing.{missing}
 use Rattle.b2_references.proofs.FiltersKeepFirstNames.{number_is}
 
 -- ---- one more element
@@ -84,10 +84,10 @@ pub first_of_none : (ps : List Pair) (more : List (List Pair)) → length ps ≡
 first_of_none [] more e = refl
 first_of_none (p ∷ ps) more e = absurd (omega (arith, e))
 
-pub first_of_two : (xs ys : List (List Pair)) → length (first_list xs) ≡ 0 → first_list (xs ++ ys) ≡ first_list ys
-first_of_two [] ys e = refl
-first_of_two ([] ∷ xs) ys e = first_of_two xs ys e
-first_of_two ((p ∷ ps) ∷ xs) ys e = absurd (omega (arith, e))
+pub first_of_joined : (xs ys : List (List Pair)) → length (first_list xs) ≡ 0 → first_list (xs ++ ys) ≡ first_list ys
+first_of_joined [] ys e = refl
+first_of_joined ([] ∷ xs) ys e = first_of_joined xs ys e
+first_of_joined ((p ∷ ps) ∷ xs) ys e = absurd (omega (arith, e))
 
 pub first_of_one : (xs ys : List (List Pair)) → (length (first_list xs) ≡ 0 → ⊥) → first_list (xs ++ ys) ≡ first_list xs
 first_of_one [] ys some = absurd (some refl)
@@ -174,10 +174,10 @@ first_own xs ys ds b e test none = e ∙ sym (first_of_one xs ys some)
     some e0 = let h : true ≡ false = sym (ap (λ n. eqb n 0) e0) ∙ ap (λ zs. eqb (length zs) 0) (sym e) ∙ sym test ∙ none in cc
 
 pub first_other : (xs ys : List (List Pair)) (ds : List Pair) (b : Bool) → ds ≡ first_list xs → b ≡ eqb (length ds) 0 → b ≡ true → first_list ys ≡ first_list (xs ++ ys)
-first_other xs ys ds b e test none = sym (first_of_two xs ys (sym (ap length e) ∙ number_is (length ds) 0 (sym test ∙ none)))
+first_other xs ys ds b e test none = sym (first_of_joined xs ys (sym (ap length e) ∙ number_is (length ds) 0 (sym test ∙ none)))
 
 -- one pair more that a set leaves open
-pub choosable_next : (table : List Declared) (set pairs : List Pair) (i : ℕ) (p : Pair) (b : Bool) (made old : List Pair) → i < length pairs → p ≡ get_or pairs i p
+pub choosable_next : (table : List DeclaredFeature) (set pairs : List Pair) (i : ℕ) (p : Pair) (b : Bool) (made old : List Pair) → i < length pairs → p ≡ get_or pairs i p
     → b ≡ (not (names set p.0) && not (is_with Free table p.0)) → made ≡ cond b (old ++ p ∷ []) old → old ≡ choosable table set (take i pairs) → made ≡ choosable table set (take (i + 1) pairs)
 choosable_next table set pairs i p b made old within is test grown so_far = grown ∙ ap₂ (λ (t : Bool) (ys : List Pair). cond t (ys ++ p ∷ []) ys) test so_far ∙ sym (ap (choosable table set) (next_take pairs i p within is) ∙ push)
   where

@@ -5,8 +5,8 @@ use Rattle.std.specs.Option.{option_map_or}
 use Rattle.std.proofs.lemmas.List.{reverse-append, reverse-reverse, length-reverse}
 use Rattle.std.proofs.lemmas.List.Folds.{list_any-append}
 use Rattle.b2_base.specs.Numbers.{is_among}
-use Rattle.b2_metatargets.specs.declared.place.Place.{Place}
-use Rattle.b2_metatargets.specs.declared.whole.Declared.{Declared}
+use Rattle.b2_declared.specs.declared.place.Place.{Place}
+use Rattle.b2_declared.specs.declared.whole.Declared.{Declared}
 use Rattle.b2_references.specs.References.{builds_of, walked, place_at, projects_under}
 use Rattle.b2_references.specs.Walking.{found_after, Steps, builds_left, turns_left}
 use Rattle.b2_references.proofs.FiltersKeepFirstNames.{number_is, number_itself}

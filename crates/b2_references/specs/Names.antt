@@ -3,12 +3,12 @@ use Rattle.std.specs.Prelude.{ℕ, zero, suc, ◌==◌, Bool, not, ◌&&◌, Lis
 use Rattle.std.specs.List.{list_any}
 use Rattle.std.specs.Option.{option_map_or}
 use Rattle.std.specs.Str.{bytes_eq}
-use Rattle.b2_features.specs.Table.{Declared as Feature}
+use Rattle.b2_features.specs.Table.{DeclaredFeature}
 use Rattle.b2_props.specs.Sets.{Pair}
-use Rattle.b2_texts.specs.Completion.{reference_to}
-use Rattle.b2_metatargets.specs.declared.place.Place.{Place}
-use Rattle.b2_metatargets.specs.declared.place.Target.{Target}
-use Rattle.b2_metatargets.specs.declared.whole.Declared.{Declared}
+use Rattle.b2_property_texts.specs.Completion.{reference_to}
+use Rattle.b2_declared.specs.declared.place.Place.{Place}
+use Rattle.b2_declared.specs.declared.place.Target.{Target}
+use Rattle.b2_declared.specs.declared.whole.Declared.{Declared}
 
 -- a main target: the place of its project, and its name there
 abbrev pub Name : Type 0
@@ -45,7 +45,7 @@ first_list ([] ∷ more) = first_list more
 first_list ((p ∷ pairs) ∷ more) = p ∷ pairs
 
 module _ (d : Declared) where
-  abbrev pub features : List Feature
+  abbrev pub features : List DeclaredFeature
   features = d.registry
 
   -- the alternatives of a main target, in order of declaration

@@ -4,9 +4,9 @@ use Rattle.std.specs.List.{list_any, flat_map, filter_map}
 use Rattle.std.specs.Option.{option_map_or, option_and_then}
 use Rattle.std.specs.Str.{bytes_eq}
 use Rattle.b2_base.specs.Segments.{is_rooted, path_from}
-use Rattle.b2_texts.specs.Cuts.{cut_at}
-use Rattle.b2_metatargets.specs.Gathering.{dir_of as dir_of_id}
-use Rattle.b2_metatargets.specs.declared.whole.Declared.{Declared}
+use Rattle.b2_property_texts.specs.Cuts.{cut_at}
+use Rattle.b2_declared.specs.Gathering.{dir_of as dir_of_id}
+use Rattle.b2_declared.specs.declared.whole.Declared.{Declared}
 use Rattle.b2_references.specs.declared.meaning.Meaning.{Meaning}
 use Rattle.b2_references.specs.declared.meaning.Meaning.TheVariants.{File, Targets, Nothing}
 use Rattle.b2_references.specs.Names.{Name, first_names, name_of, is_target, dir_of}

@@ -3,18 +3,18 @@ use Rattle.std.specs.Prelude.{ℕ, Bool, false, not, List, [], ◌∷◌, ◌++�
 use Rattle.std.specs.List.{flat_map}
 use Rattle.std.specs.Str.{bytes_eq}
 use Rattle.b2_features.specs.declared.attribute.Attribute.TheVariants.{Free}
-use Rattle.b2_features.specs.Table.{Declared as Feature}
+use Rattle.b2_features.specs.Table.{DeclaredFeature}
 use Rattle.b2_features.specs.Faults.{is_with}
 use Rattle.b2_props.specs.Sets.{Pair, firsts, set_of, IsSet}
 use Rattle.b2_props.specs.Refinement.{names}
 use Rattle.b2_props.specs.Requests.{product}
-use Rattle.b2_texts.specs.Missing.{missing}
-use Rattle.b2_metatargets.specs.declared.whole.Declared.{Declared}
+use Rattle.b2_property_texts.specs.Missing.{missing}
+use Rattle.b2_declared.specs.declared.whole.Declared.{Declared}
 use Rattle.b2_references.specs.declared.meaning.Meaning.{Meaning}
 use Rattle.b2_references.specs.declared.meaning.Meaning.TheVariants.{File, Targets, Nothing}
-use Rattle.b2_references.specs.declared.asked.Asked.{Asked}
-use Rattle.b2_references.specs.declared.asked.Asked.TheVariants.{Main, NoTarget}
-use Rattle.b2_references.specs.declared.word.Word.{Word}
+use Rattle.b2_references.specs.declared.asked.AskedPiece.{AskedPiece}
+use Rattle.b2_references.specs.declared.asked.AskedPiece.TheVariants.{Main, NoTarget}
+use Rattle.b2_references.specs.declared.request_word.RequestWord.{RequestWord}
 use Rattle.b2_references.specs.Names.{Name, features, default_build}
 use Rattle.b2_references.specs.References.{root, project_meaning, word_meaning}
 
@@ -35,7 +35,7 @@ abbrev pub by_feature : List Pair → List (List Pair)
 by_feature pairs = fold joined [] pairs
 
 -- the pairs of a `default-build` whose features a set does not name and that are not free
-abbrev pub choosable : List Feature → List Pair → List Pair → List Pair
+abbrev pub choosable : List DeclaredFeature → List Pair → List Pair → List Pair
 choosable table set defaults = filter (λ p. not (is_with Free table p.0)) (missing set defaults)
 
 module _ (d : Declared) where
@@ -52,36 +52,36 @@ module _ (d : Declared) where
   -- ---- what is asked for
 
   -- a word with what it names
-  abbrev pub word_of : List ℕ → Word
+  abbrev pub word_of : List ℕ → RequestWord
   word_of word = record { text = word; meaning = word_meaning d word }
 
   -- no word: the project of Jamroot
-  abbrev pub root_word : Word
+  abbrev pub root_word : RequestWord
   root_word = record { text = []; meaning = project_meaning d root }
 
   -- the words of a request
-  unfoldable pub named_by : List (List ℕ) → List Word
+  unfoldable pub named_by : List (List ℕ) → List RequestWord
   named_by [] = root_word ∷ []
   named_by (word ∷ more) = map word_of (word ∷ more)
 
   -- what a set of a request asks for of a main target
-  abbrev pub asked_for : List Pair → Name → List Asked
+  abbrev pub asked_for : List Pair → Name → List AskedPiece
   asked_for set name = map (Main name) (sets_for set name)
 
   -- what it asks for by a word
-  abbrev pub asked_by : List Pair → List ℕ → Meaning → List Asked
+  abbrev pub asked_by : List Pair → List ℕ → Meaning → List AskedPiece
   asked_by set word (Targets names) = flat_map (asked_for set) names
   asked_by set word (File path) = NoTarget word ∷ []
   asked_by set word Nothing = NoTarget word ∷ []
 
-  abbrev pub asked_of : List Word → List Pair → List Asked
+  abbrev pub asked_of : List RequestWord → List Pair → List AskedPiece
   asked_of words set = flat_map (λ w. asked_by set w.text w.meaning) words
 
   -- by sets, within each by words, within each by main targets, within each by the sets that it stands for
-  unfoldable pub asked : List (List Pair) → List (List ℕ) → List Asked
+  unfoldable pub asked : List (List Pair) → List (List ℕ) → List AskedPiece
   asked sets words = flat_map (asked_of (named_by words)) sets
 
 -- the set of a piece is one of the table
-abbrev pub HasSet : List Feature → Asked → Type 0
+abbrev pub HasSet : List DeclaredFeature → AskedPiece → Type 0
 HasSet table (Main name set) = IsSet table set
 HasSet table (NoTarget word) = Unit {0}

@@ -3,13 +3,13 @@ use Rattle.std.specs.Prelude.{◌≡◌, ℕ, ◌+◌, suc, List, [], ◌∷◌,
 use Rattle.std.specs.Ordering.{nat_cmp}
 use Rattle.std.specs.BTreeSet.{contains}
 use Rattle.b2_base.specs.Numbers.{is_among}
-use Rattle.b2_metatargets.specs.declared.place.Place.{Place}
-use Rattle.b2_metatargets.specs.declared.whole.Declared.{Declared}
-use Rattle.b2_references.specs.declared.walk.Walk.{Walk}
+use Rattle.b2_declared.specs.declared.place.Place.{Place}
+use Rattle.b2_declared.specs.declared.whole.Declared.{Declared}
+use Rattle.b2_references.specs.declared.project_search.ProjectSearch.{ProjectSearch}
 use Rattle.b2_references.specs.References.{builds_of}
 
 -- the set has the projects that were found
-pub record IsWalk (walk : Walk) : Type 0 where
+pub record IsWalk (walk : ProjectSearch) : Type 0 where
   pub known : (project : ℕ) → contains nat_cmp walk.known project ≡ is_among walk.found.items project
 
 -- what looking at a project makes of those found and those to be looked at, the next of which is the last

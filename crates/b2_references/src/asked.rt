@@ -6,10 +6,10 @@ use b2_props::props::Props;
 
 /// What a request asks for, piece by piece: a main target with a set, or a word that names no target.
 #[derive(Drop)]
-pub enum Asked {
+pub enum AskedPiece {
     Main { name: TargetName, set: Props },
     NoTarget { word: Text },
 }
 
 /// The pieces in order.
-pub type AskedList = List<Asked>;
+pub type AskedList = List<AskedPiece>;

@@ -18,12 +18,12 @@ use b2_base::text_map::TextMap;
 use b2_features::attribute::Attribute;
 use b2_features::feature::copy_pairs;
 use b2_features::registry::Registry;
+use b2_property_texts::missing::features_of;
 use b2_props::lookups::is_with;
 use b2_props::pair_list::{PairList, copy_pair};
 use b2_props::props::Props;
 use b2_props::refinement::set_of;
 use b2_props::request::PropsList;
-use b2_texts::missing::features_of;
 use std::alloc::Global;
 use std::collections::BTreeSet;
 

@@ -1,7 +1,7 @@
 //! The main targets of each project by their names.
 ghost use Rattle.std.specs.Prelude.{◌≡◌, List, [], ◌∷◌, ◌++◌, ◌<◌, All, is_some, length, unwrap_or, IfOk, OnOk, if◌then◌else◌};
 ghost use Rattle.std.specs.FinMap as map;
-ghost use Rattle.b2_metatargets.specs.declared.place.Target.{Target as Main};
+ghost use Rattle.b2_declared.specs.declared.place.Target.{Target as Main};
 ghost use Rattle.b2_references.specs.Indexing.{AreEntries, HasOneMore, no_entry};
 
 use crate::text_table::TextTable;
@@ -9,21 +9,21 @@ use b2_base::fault::OutOfMemory;
 use b2_base::list::List;
 use b2_base::text::Text;
 use b2_base::text_list::TextList;
-use b2_metatargets::place::Target;
+use b2_declared::place::Target;
 use std::alloc::Global;
 
 /// The main targets of a project: for each name the numbers of those with it, and the names in order of declaration.
 #[derive(Drop)]
-pub(crate) struct Entry {
+pub(crate) struct ProjectTargets {
     pub(crate) numbers: TextTable<List<usize>>,
     pub(crate) names: TextList,
 }
 
-impl Entry {
-    fn new(alloc: Global) -> Entry
+impl ProjectTargets {
+    fn new(alloc: Global) -> ProjectTargets
         ensures { result ≡ no_entry }
     {
-        Entry {
+        ProjectTargets {
             numbers: TextTable::new(alloc),
             names: TextList::new(alloc),
         }
@@ -55,20 +55,20 @@ impl Entry {
     }
 }
 
-fn empty_entries(alloc: Global, projects: usize) -> Result<Vec<Entry>, OutOfMemory>
+fn empty_entries(alloc: Global, projects: usize) -> Result<Vec<ProjectTargets>, OutOfMemory>
     ensures none { IfOk result (λ made. AreEntries [] made.items) }
     ensures projects { IfOk result (λ made. length made.items ≡ projects) }
 {
     let mut made = Vec::new(alloc);
     for project in 0..projects {
-        made.push(Entry::new(alloc))?;
+        made.push(ProjectTargets::new(alloc))?;
     }
     Ok(made)
 }
 
 fn add_target(
     alloc: Global,
-    entries: &mut Vec<Entry>,
+    entries: &mut Vec<ProjectTargets>,
     target: &Target,
     number: usize,
 ) -> Result<(), OutOfMemory>
@@ -84,7 +84,7 @@ pub(crate) fn entries_of(
     alloc: Global,
     projects: usize,
     targets: &[Target],
-) -> Result<Vec<Entry>, OutOfMemory>
+) -> Result<Vec<ProjectTargets>, OutOfMemory>
     requires { All (λ t. t.project < projects) targets.now }
     ensures entries { IfOk result (λ made. AreEntries targets.now made.items) }
     ensures projects { IfOk result (λ made. length made.items ≡ projects) }

@@ -7,14 +7,14 @@ ghost use Rattle.b2_references.specs.Indexing.{some_of, named_in, targets_in};
 ghost use Rattle.b2_references.specs.Names.{numbers, is_target, first_names, name_of};
 ghost use Rattle.b2_references.specs.References.{place_at, place_with};
 
-use crate::entries::{Entry, entries_of};
+use crate::entries::{ProjectTargets, entries_of};
 use crate::text_table::TextTable;
 use b2_base::fault::OutOfMemory;
 use b2_base::list::List;
 use b2_base::path::Path;
 use b2_base::text::Text;
-use b2_metatargets::place::Place;
-use b2_metatargets::whole::Declared;
+use b2_declared::place::Place;
+use b2_declared::whole::Declared;
 use std::alloc::Global;
 use std::marker::Model;
 
@@ -24,7 +24,7 @@ pub struct Index<'a> {
     alloc: Global,
     declared: &'a Declared,
     dirs: TextTable<usize>,
-    entries: Vec<Entry>,
+    entries: Vec<ProjectTargets>,
 }
 
 /// By hand, so that dropping one is one call.
@@ -42,7 +42,7 @@ impl<'a> Drop for Index<'a> {
 }
 
 impl<'a> Model for Index<'a> {
-    ghost use Rattle.b2_metatargets.specs.declared.whole.Declared.{Declared as Loaded};
+    ghost use Rattle.b2_declared.specs.declared.whole.Declared.{Declared as Loaded};
     ghost use Rattle.b2_references.specs.Indexing.{IsIndexOf};
 
     ghost Value = { Loaded };
@@ -77,7 +77,7 @@ fn dirs_of(alloc: Global, places: &[Place]) -> Result<TextTable<usize>, OutOfMem
 }
 
 /// The entry of a project, where it is there.
-fn entry_at(entries: &[Entry], project: usize) -> Option<&Entry>
+fn entry_at(entries: &[ProjectTargets], project: usize) -> Option<&ProjectTargets>
     ensures { option_copied result ≡ slice_get entries.now project }
 {
     entries.get(project)

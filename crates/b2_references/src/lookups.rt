@@ -7,8 +7,8 @@ use crate::index::Index;
 use b2_base::fault::OutOfMemory;
 use b2_base::path::{Path, folder};
 use b2_base::text::Text;
-use b2_metatargets::place::{Place, Target};
-use b2_texts::completion::reference_to;
+use b2_declared::place::{Place, Target};
+use b2_property_texts::completion::reference_to;
 use std::alloc::Global;
 
 /// A project of a list, where it names one that is there.

@@ -10,7 +10,7 @@ ghost use Rattle.b2_references.specs.References.{listed_targets, project_meaning
 use crate::index::Index;
 use crate::meaning::Meaning;
 use crate::name::{NameList, TargetName};
-use crate::walk::projects_under;
+use crate::project_search::projects_under;
 use b2_base::fault::OutOfMemory;
 use b2_base::text::Text;
 use b2_base::text_map::TextMap;

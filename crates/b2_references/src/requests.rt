@@ -1,39 +1,39 @@
 //! What a request asks for.
 ghost use Rattle.std.specs.Prelude.{◌≡◌, ◌++◌, ◌∷◌, [], map, IfOk, OnOk};
 ghost use Rattle.std.specs.List.{AllByRecursion, flat_map};
-ghost use Rattle.b2_references.specs.declared.asked.Asked.TheVariants as variants;
+ghost use Rattle.b2_references.specs.declared.asked.AskedPiece.TheVariants as variants;
 ghost use Rattle.b2_references.specs.Requests.{HasSet, root_word, word_of, asked_for, asked_by, asked_of, asked, named_by};
 
-use crate::asked::{Asked, AskedList};
+use crate::asked::{AskedList, AskedPiece};
 use crate::default_sets::{distinct, sets_for};
 use crate::index::Index;
 use crate::meaning::Meaning;
 use crate::name::TargetName;
 use crate::projects::project_meaning;
 use crate::references::{ROOT, word_meaning};
-use crate::word::{Word, WordList};
+use crate::request_word::{RequestWord, WordList};
 use b2_base::fault::OutOfMemory;
 use b2_base::text::Text;
 use b2_props::props::Props;
 use b2_props::request::PropsList;
 use std::alloc::Global;
 
-fn root_word(alloc: Global, index: &Index) -> Result<Word, OutOfMemory>
+fn root_word(alloc: Global, index: &Index) -> Result<RequestWord, OutOfMemory>
     ensures { IfOk result (λ made. made ≡ root_word index.now) }
 {
     let meaning = project_meaning(alloc, index, ROOT)?;
-    Ok(Word {
+    Ok(RequestWord {
         text: Text::new(alloc, "")?,
         meaning,
     })
 }
 
-fn word_of(alloc: Global, index: &Index, word: &Text) -> Result<Word, OutOfMemory>
+fn word_of(alloc: Global, index: &Index, word: &Text) -> Result<RequestWord, OutOfMemory>
     ensures { IfOk result (λ made. made ≡ word_of index.now word.now) }
 {
     let text = word.copy()?;
     let meaning = word_meaning(alloc, index, word)?;
-    Ok(Word { text, meaning })
+    Ok(RequestWord { text, meaning })
 }
 
 fn words_of(alloc: Global, index: &Index, words: &[Text]) -> Result<WordList, OutOfMemory>
@@ -62,7 +62,7 @@ fn push_main(made: &mut AskedList, name: &TargetName, set: Props) -> Result<(), 
     ensures { OnOk result (made.new ≡ made.old ++ variants.Main name.now set ∷ []) }
 {
     let name = name.copy()?;
-    made.push(Asked::Main { name, set })
+    made.push(AskedPiece::Main { name, set })
 }
 
 fn push_mains(made: &mut AskedList, name: &TargetName, sets: PropsList) -> Result<(), OutOfMemory>
@@ -106,14 +106,14 @@ fn push_unknown(made: &mut AskedList, word: &Text) -> Result<(), OutOfMemory>
     ensures { OnOk result (made.new ≡ made.old ++ variants.NoTarget word.now ∷ []) }
 {
     let word = word.copy()?;
-    made.push(Asked::NoTarget { word })
+    made.push(AskedPiece::NoTarget { word })
 }
 
 fn push_word(
     alloc: Global,
     index: &Index,
     set: &Props,
-    word: &Word,
+    word: &RequestWord,
     made: &mut AskedList,
 ) -> Result<(), OutOfMemory>
     ensures { OnOk result (made.new ≡ made.old ++ asked_by index.now set.now word.now.text word.now.meaning) }
@@ -128,7 +128,7 @@ fn push_words(
     alloc: Global,
     index: &Index,
     set: &Props,
-    words: &[Word],
+    words: &[RequestWord],
     made: &mut AskedList,
 ) -> Result<(), OutOfMemory>
     ensures { OnOk result (made.new ≡ made.old ++ asked_of index.now words.now set.now) }
@@ -143,7 +143,7 @@ fn pieces_of(
     alloc: Global,
     index: &Index,
     sets: &[Props],
-    words: &[Word],
+    words: &[RequestWord],
 ) -> Result<AskedList, OutOfMemory>
     ensures { IfOk result (λ made. made ≡ flat_map (asked_of index.now words.now) sets.now) }
 {

@@ -1,7 +1,7 @@
 //! References as they are written.
 ghost use Rattle.std.specs.Prelude.{◌≡◌, codes, option_map, IfSome};
 ghost use Rattle.b2_base.specs.Bytes.{HasNoZero};
-ghost use Rattle.b2_texts.specs.Cuts.{cut_at, AreClean};
+ghost use Rattle.b2_property_texts.specs.Cuts.{cut_at, AreClean};
 
 /// What stands before and after the first `//` of a text, where it stands there; takes no memory.
 pub(crate) fn cut_reference(text: &str) -> Option<(&str, &str)>

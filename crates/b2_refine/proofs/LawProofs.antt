@@ -11,7 +11,7 @@ use Rattle.b2_refine.specs.declared.choice.Choice.{Choice}
 use Rattle.b2_refine.specs.declared.choice.Choice.TheVariants as choices
 use Rattle.b2_refine.proofs.BetterIsAStrictOrder.{better_not_back}
 use Rattle.b2_refine.proofs.RivalMeansNoneIsChosen.{clash_parts, counted_others, choice_of_sole}
-use Rattle.b2_refine.proofs.LastTwoRoundsDecide.{stays, fault_stays}
+use Rattle.b2_refine.proofs.LastRoundsDecide.{stays, fault_stays}
 use Rattle.b2_refine.proofs.AnyOrderKeepsTheChosen.{Rearranged, permutation_rearranges, permutation_length, viable_forth, viable_back, chosen_forth}
 
 -- ---- requirements

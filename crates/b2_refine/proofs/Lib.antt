@@ -1,6 +1,6 @@
 pub mod BetterIsAStrictOrder
 pub mod RivalMeansNoneIsChosen
 pub mod RequirementsGiveOneByOne
-pub mod LastTwoRoundsDecide
+pub mod LastRoundsDecide
 pub mod AnyOrderKeepsTheChosen
 pub mod LawProofs

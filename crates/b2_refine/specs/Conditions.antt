@@ -1,7 +1,7 @@
 use Rattle.std.specs.Prelude.{◌≡◌, ◌≢◌, ℕ, zero, suc, ◌≤◌, Bool, true, false, List, [], ◌∷◌, ◌++◌, Result, Ok, Err, length, filter, if◌then◌else◌}
 use Rattle.std.specs.List.{flat_map}
 use Rattle.b2_base.specs.Results.{and_then}
-use Rattle.b2_features.specs.Table.{Declared}
+use Rattle.b2_features.specs.Table.{DeclaredFeature}
 use Rattle.b2_props.specs.Sets.{Pair}
 use Rattle.b2_props.specs.Membership.{has_all}
 use Rattle.b2_props.specs.Refinement.{refined}
@@ -46,15 +46,15 @@ given answer set [] = Ok []
 given answer set (requirement ∷ more) = joined (gives answer set requirement) (given answer set more)
 
 -- the set of round 0: the request refined by what is required without conditions
-abbrev pub first_set : List Declared → List Pair → List Requirement → List Pair
+abbrev pub first_set : List DeclaredFeature → List Pair → List Requirement → List Pair
 first_set table request required = refined table request (unconditional required)
 
 -- the set of the next round: that of round 0, refined by what the other requirements give in the set of this one
-abbrev pub next_set : {F : Type 0} → Answer F → List Declared → List Pair → List Requirement → List Pair → Result (List Pair) F
+abbrev pub next_set : {F : Type 0} → Answer F → List DeclaredFeature → List Pair → List Requirement → List Pair → Result (List Pair) F
 next_set answer table base required set = and_then (λ pairs. Ok (refined table base pairs)) (given answer set (others required))
 
 -- the set of a round, or the first fault that came before it
-abbrev pub round_set : {F : Type 0} → Answer F → List Declared → List Pair → List Requirement → ℕ → Result (List Pair) F
+abbrev pub round_set : {F : Type 0} → Answer F → List DeclaredFeature → List Pair → List Requirement → ℕ → Result (List Pair) F
 round_set answer table request required zero = Ok (first_set table request required)
 round_set answer table request required (suc k) = and_then (next_set answer table (first_set table request required) required) (round_set answer table request required k)
 
@@ -64,16 +64,16 @@ last_round required = suc (length (others required))
 
 -- The result is the set of a round that the next round leaves as it is. All later rounds leave it so too, so that it is
 -- that of the first such round.
-abbrev pub IsSettled : {F : Type 0} → Answer F → List Declared → List Pair → List Requirement → List Pair → Type 0
+abbrev pub IsSettled : {F : Type 0} → Answer F → List DeclaredFeature → List Pair → List Requirement → List Pair → Type 0
 IsSettled answer table request required set =
     (k : ℕ) × (k ≤ last_round required) × (round_set answer table request required k ≡ Ok set) × (round_set answer table request required (suc k) ≡ Ok set)
 
 -- no round leaves its set as it is: the sets of the last round and of the one after it differ
-abbrev pub IsUnstable : {F : Type 0} → Answer F → List Declared → List Pair → List Requirement → List Pair → List Pair → Type 0
+abbrev pub IsUnstable : {F : Type 0} → Answer F → List DeclaredFeature → List Pair → List Requirement → List Pair → List Pair → Type 0
 IsUnstable answer table request required first second =
     (round_set answer table request required (last_round required) ≡ Ok first) × (round_set answer table request required (suc (last_round required)) ≡ Ok second) × (first ≢ second)
 
 -- a rule answers with a fault before a round leaves its set as it is: the first answer of this kind, by rounds and then by
 -- requirements
-abbrev pub IsAsked : {F : Type 0} → Answer F → List Declared → List Pair → List Requirement → F → Type 0
+abbrev pub IsAsked : {F : Type 0} → Answer F → List DeclaredFeature → List Pair → List Requirement → F → Type 0
 IsAsked answer table request required fault = (k : ℕ) × (k ≤ suc (last_round required)) × (round_set answer table request required k ≡ Err fault)

@@ -1,5 +1,5 @@
 use Rattle.std.specs.Prelude.{◌≡◌, ◌⊎◌, ℕ, suc, ◌≤◌, Bool, false, List, [], ◌∷◌, Option, Result, Ok, Err, IfErr, if◌then◌else◌}
-use Rattle.b2_features.specs.Table.{Declared}
+use Rattle.b2_features.specs.Table.{DeclaredFeature}
 use Rattle.b2_props.specs.Sets.{Pair}
 use Rattle.b2_props.specs.Membership.{has_all}
 use Rattle.b2_props.specs.declared.requirement.Requirement.{Requirement}
@@ -38,7 +38,7 @@ abbrev pub plain_pairs : List Pair → List Pair → Pair → List Pair
 plain_pairs set conditions property = if is_given set conditions then property ∷ [] else []
 
 -- the sets of a round and of the next one, which are the same, or those of the last round
-pub record AreLastTwo {F : Type 0} (answer : Answer F) (table : List Declared) (request : List Pair) (required : List Requirement) (first second : List Pair) : Type 0 where
+pub record AreLastRounds {F : Type 0} (answer : Answer F) (table : List DeclaredFeature) (request : List Pair) (required : List Requirement) (first second : List Pair) : Type 0 where
   pub round : ℕ
   pub within : round ≤ last_round required
   pub first_is : round_set answer table request required round ≡ Ok first

@@ -1,5 +1,5 @@
 use Rattle.std.specs.Prelude.{◌≡◌, Bool, false, List}
-use Rattle.b2_features.specs.Table.{Declared}
+use Rattle.b2_features.specs.Table.{DeclaredFeature}
 use Rattle.b2_props.specs.Sets.{Pair}
 use Rattle.b2_props.specs.declared.requirement.Requirement.{Requirement}
 use Rattle.b2_refine.specs.Answers.{Answer}
@@ -8,13 +8,13 @@ use Rattle.b2_refine.specs.declared.fault.RefineFault.{RefineFault}
 use Rattle.b2_refine.specs.declared.fault.RefineFault.TheVariants.{Unstable, Asked, OutOfMemory}
 
 -- an answer that says unstable has the two sets of the last round and the one after it
-abbrev pub IsUnstableBy : {F : Type 0} → Answer F → List Declared → List Pair → List Requirement → RefineFault F → Type 0
+abbrev pub IsUnstableBy : {F : Type 0} → Answer F → List DeclaredFeature → List Pair → List Requirement → RefineFault F → Type 0
 IsUnstableBy answer table request required (Unstable first second) = IsUnstable answer table request required first second
 IsUnstableBy answer table request required (Asked fault) = Unit {0}
 IsUnstableBy answer table request required OutOfMemory = Unit {0}
 
 -- an answer that says asked has the fault that the evaluation meets, or one of the host, or out of memory
-abbrev pub IsAskedBy : {F : Type 0} → (F → Bool) → (F → Bool) → Answer F → List Declared → List Pair → List Requirement → RefineFault F → Type 0
+abbrev pub IsAskedBy : {F : Type 0} → (F → Bool) → (F → Bool) → Answer F → List DeclaredFeature → List Pair → List Requirement → RefineFault F → Type 0
 IsAskedBy is_host is_memory answer table request required (Unstable first second) = Unit {0}
 IsAskedBy is_host is_memory answer table request required (Asked fault) = is_host fault ≡ false → is_memory fault ≡ false → IsAsked answer table request required fault
 IsAskedBy is_host is_memory answer table request required OutOfMemory = Unit {0}

@@ -1,6 +1,6 @@
 use Rattle.std.specs.Prelude.{◌≡◌, ℕ, ◌-◌, List, slice_get}
 use Rattle.std.specs.List.Sorted.{IsPermutation}
-use Rattle.b2_features.specs.Table.{Declared}
+use Rattle.b2_features.specs.Table.{DeclaredFeature}
 use Rattle.b2_props.specs.Sets.{Pair}
 use Rattle.b2_props.specs.declared.requirement.Requirement.{Requirement}
 use Rattle.b2_refine.specs.Answers.{Answer}
@@ -13,23 +13,23 @@ use Rattle.b2_refine.specs.declared.choice.Choice.TheVariants.{One, None, Ambigu
 
 -- an evaluation settles on one set at most
 abbrev pub SettlesOnOne : Type 0 → Type 0
-SettlesOnOne F = (answer : Answer F) (table : List Declared) (request : List Pair) (required : List Requirement) (a b : List Pair) → IsSettled answer table request required a → IsSettled answer table request required b → a ≡ b
+SettlesOnOne F = (answer : Answer F) (table : List DeclaredFeature) (request : List Pair) (required : List Requirement) (a b : List Pair) → IsSettled answer table request required a → IsSettled answer table request required b → a ≡ b
 
 -- an evaluation that settles is not unstable
 abbrev pub SettledIsStable : Type 0 → Type 0
-SettledIsStable F = (answer : Answer F) (table : List Declared) (request : List Pair) (required : List Requirement) (set a b : List Pair) → IsSettled answer table request required set → ¬ IsUnstable answer table request required a b
+SettledIsStable F = (answer : Answer F) (table : List DeclaredFeature) (request : List Pair) (required : List Requirement) (set a b : List Pair) → IsSettled answer table request required set → ¬ IsUnstable answer table request required a b
 
 -- an evaluation that settles meets no fault
 abbrev pub SettledHasNoFault : Type 0 → Type 0
-SettledHasNoFault F = (answer : Answer F) (table : List Declared) (request : List Pair) (required : List Requirement) (set : List Pair) (fault : F) → IsSettled answer table request required set → ¬ IsAsked answer table request required fault
+SettledHasNoFault F = (answer : Answer F) (table : List DeclaredFeature) (request : List Pair) (required : List Requirement) (set : List Pair) (fault : F) → IsSettled answer table request required set → ¬ IsAsked answer table request required fault
 
 -- an evaluation that meets a fault is not unstable
 abbrev pub UnstableHasNoFault : Type 0 → Type 0
-UnstableHasNoFault F = (answer : Answer F) (table : List Declared) (request : List Pair) (required : List Requirement) (a b : List Pair) (fault : F) → IsUnstable answer table request required a b → ¬ IsAsked answer table request required fault
+UnstableHasNoFault F = (answer : Answer F) (table : List DeclaredFeature) (request : List Pair) (required : List Requirement) (a b : List Pair) (fault : F) → IsUnstable answer table request required a b → ¬ IsAsked answer table request required fault
 
 -- an evaluation meets one fault at most
 abbrev pub MeetsOneFault : Type 0 → Type 0
-MeetsOneFault F = (answer : Answer F) (table : List Declared) (request : List Pair) (required : List Requirement) (a b : F) → IsAsked answer table request required a → IsAsked answer table request required b → a ≡ b
+MeetsOneFault F = (answer : Answer F) (table : List DeclaredFeature) (request : List Pair) (required : List Requirement) (a b : F) → IsAsked answer table request required a → IsAsked answer table request required b → a ≡ b
 
 -- ---- alternatives
 

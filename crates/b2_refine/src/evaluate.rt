@@ -6,7 +6,7 @@ ghost use Rattle.b2_refine.specs.Answers.{Answer};
 ghost use Rattle.b2_base.specs.Counts.{IsCounted};
 ghost use Rattle.b2_refine.specs.Conditions.{own_pairs, unconditional, is_other, first_set, next_set, IsSettled};
 ghost use Rattle.b2_refine.specs.Faults.{IsUnstableBy, IsAskedBy, IsKnownFault, is_asked};
-ghost use Rattle.b2_refine.specs.Evaluating.{IsOutcome, LeavesAsker, AreLastTwo, IsNotUnstable};
+ghost use Rattle.b2_refine.specs.Evaluating.{IsOutcome, LeavesAsker, AreLastRounds, IsNotUnstable};
 
 use crate::ask::Ask;
 use crate::fault::RefineFault;
@@ -79,7 +79,7 @@ fn count_others(required: &[Requirement]) -> usize
         .count()
 }
 
-#[tactic(auto, using(crate::proofs::LastTwoRoundsDecide::refined_outcome, crate::proofs::LastTwoRoundsDecide::refused_outcome))]
+#[tactic(auto, using(crate::proofs::LastRoundsDecide::refined_outcome, crate::proofs::LastRoundsDecide::refused_outcome))]
 fn next_set<A: Ask>(
     alloc: Global,
     registry: &Registry,
@@ -101,14 +101,14 @@ fn next_set<A: Ask>(
 
 /// The sets of a round and of the next one.
 #[derive(Drop)]
-struct LastTwo {
+struct LastRounds {
     first: Props,
     second: Props,
 }
 
 /// The sets of the first round that leaves its set as it is, or else of the last one, and of the round after it; from the set
 /// of round 0, which is handed in twice.
-fn last_two<A: Ask>(
+fn last_rounds<A: Ask>(
     alloc: Global,
     registry: &Registry,
     request: &Props,
@@ -116,12 +116,12 @@ fn last_two<A: Ask>(
     first: Props,
     required: &[Requirement],
     ask: &mut A,
-) -> Result<LastTwo, RefineFault<A::Fault>>
+) -> Result<LastRounds, RefineFault<A::Fault>>
     requires set { IsSet registry.now base.now }
     requires base { base.now ≡ first_set registry.now request.now required.now }
     requires first { first ≡ base.now }
     requires rules { All (AsksBelow (A.rules ask.old)) required.now }
-    ensures told { (told : Answer A.Fault) → A.answer ask.old ≡ Some told → IfOk result (λ two. AreLastTwo told registry.now request.now required.now two.first two.second) }
+    ensures told { (told : Answer A.Fault) → A.answer ask.old ≡ Some told → IfOk result (λ two. AreLastRounds told registry.now request.now required.now two.first two.second) }
     ensures asked { (told : Answer A.Fault) → A.answer ask.old ≡ Some told → IfErr result (IsAskedBy A.is_host_fault A.is_out_of_memory told registry.now request.now required.now) }
     ensures stable { IfErr result IsNotUnstable }
     ensures set { IfOk result (λ two. IsSet registry.now two.first) }
@@ -131,13 +131,13 @@ fn last_two<A: Ask>(
     let mut second = next_set(alloc, registry, base, required, &first, ask)?;
     for _ in 0..count_others(required) + 1 {
         if first.equals(&second) {
-            return Ok(LastTwo { first, second });
+            return Ok(LastRounds { first, second });
         }
         let third = next_set(alloc, registry, base, required, &second, ask)?;
         first = second;
         second = third;
     }
-    Ok(LastTwo { first, second })
+    Ok(LastRounds { first, second })
 }
 
 /// The set of a request with what is required. Round 0 refines the request by what is required without conditions. Each
@@ -166,7 +166,7 @@ pub fn evaluate<A: Ask>(
 {
     let base = first_set(alloc, registry, request, required)?;
     let first = base.copy(alloc)?;
-    let two = last_two(alloc, registry, request, &base, first, required, ask)?;
+    let two = last_rounds(alloc, registry, request, &base, first, required, ask)?;
     if two.first.equals(&two.second) {
         return Ok(two.first);
     }

@@ -3,9 +3,9 @@ use Rattle.std.proofs.Common.{◌≡◌, Some, refl, sym, ap, ◌∙◌}
 use Rattle.std.proofs.lemmas.Option.{none-some}
 use Rattle.b2_refusals.specs.Laws.{EvaluationsAreRefused, LoadsAreRefused}
 use Rattle.b2_refusals.specs.Wholes.{IsEvalRefusal}
-use Rattle.b2_walk.specs.Faults.{lex_refusal, syntax_refusal, eval_refusal, feature_refusal}
-use Rattle.b2_walk.specs.Walks.{Refusal}
-use Rattle.b2_walk.specs.declared.fault.LoadFault.TheVariants as loading
+use Rattle.b2_project_walk.specs.Faults.{lex_refusal, syntax_refusal, eval_refusal, feature_refusal}
+use Rattle.b2_project_walk.specs.Walks.{Refusal}
+use Rattle.b2_project_walk.specs.declared.fault.LoadFault.TheVariants as loading
 use Rattle.jam_effects.specs.Causes.{HoldsNoMemory}
 use Rattle.jam_effects.specs.declared.fault.EvalFault.{EvalFault}
 use Rattle.jam_effects.specs.declared.fault.EvalFault.TheVariants as evaluating

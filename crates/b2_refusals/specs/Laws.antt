@@ -1,9 +1,9 @@
 -- Laws of refusals.
 use Rattle.std.specs.Prelude.{◌≢◌}
 use Rattle.b2_refusals.specs.Wholes.{IsEvalRefusal, IsLoadRefusal}
-use Rattle.b2_walk.specs.Faults.{IsWhole}
-use Rattle.b2_walk.specs.declared.fault.LoadFault.{LoadFault}
-use Rattle.b2_walk.specs.declared.fault.LoadFault.TheVariants as loading
+use Rattle.b2_project_walk.specs.Faults.{IsWhole}
+use Rattle.b2_project_walk.specs.declared.fault.LoadFault.{LoadFault}
+use Rattle.b2_project_walk.specs.declared.fault.LoadFault.TheVariants as loading
 use Rattle.jam_effects.specs.Causes.{HoldsNoMemory}
 use Rattle.jam_effects.specs.declared.fault.EvalFault.{EvalFault}
 use Rattle.jam_effects.specs.declared.fault.EvalFault.TheVariants as evaluating

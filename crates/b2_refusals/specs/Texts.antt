@@ -6,16 +6,16 @@ use Rattle.b2_alternatives.specs.declared.fault.ChoiceFault.{ChoiceFault}
 use Rattle.b2_alternatives.specs.declared.fault.ChoiceFault.TheVariants as choosing
 use Rattle.b2_base.specs.declared.expand_fault.ExpandFault.{ExpandFault}
 use Rattle.b2_base.specs.declared.expand_fault.ExpandFault.TheVariants as expanding
-use Rattle.b2_conversions.specs.declared.fault.MakingFault.{MakingFault}
-use Rattle.b2_conversions.specs.declared.fault.MakingFault.TheVariants as making
+use Rattle.b2_making.specs.declared.fault.MakingFault.{MakingFault}
+use Rattle.b2_making.specs.declared.fault.MakingFault.TheVariants as making
 use Rattle.b2_features.specs.declared.fault.FeatureFault.{FeatureFault}
 use Rattle.b2_features.specs.declared.fault.FeatureFault.TheVariants as features
 use Rattle.b2_generate.specs.declared.fault.GenFault.{GenFault}
 use Rattle.b2_generate.specs.declared.fault.GenFault.TheVariants as generating
 use Rattle.b2_props.specs.declared.request_fault.RequestFault.{RequestFault}
 use Rattle.b2_props.specs.declared.request_fault.RequestFault.TheVariants as requesting
-use Rattle.b2_walk.specs.declared.fault.LoadFault.{LoadFault}
-use Rattle.b2_walk.specs.declared.fault.LoadFault.TheVariants as loading
+use Rattle.b2_project_walk.specs.declared.fault.LoadFault.{LoadFault}
+use Rattle.b2_project_walk.specs.declared.fault.LoadFault.TheVariants as loading
 use Rattle.jam_effects.specs.declared.fault.EvalCause.{EvalCause}
 use Rattle.jam_effects.specs.declared.fault.EvalCause.TheVariants as causes
 use Rattle.jam_effects.specs.declared.fault.EvalFault.{EvalFault}

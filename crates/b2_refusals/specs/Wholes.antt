@@ -2,16 +2,16 @@
 use Rattle.std.specs.Prelude.{◌≢◌}
 use Rattle.b2_alternatives.specs.declared.fault.ChoiceFault.{ChoiceFault}
 use Rattle.b2_alternatives.specs.declared.fault.ChoiceFault.TheVariants as choosing
-use Rattle.b2_conversions.specs.declared.fault.MakingFault.{MakingFault}
-use Rattle.b2_conversions.specs.declared.fault.MakingFault.TheVariants as making
+use Rattle.b2_making.specs.declared.fault.MakingFault.{MakingFault}
+use Rattle.b2_making.specs.declared.fault.MakingFault.TheVariants as making
 use Rattle.b2_features.specs.declared.fault.FeatureFault.TheVariants as features
 use Rattle.b2_generate.specs.declared.fault.GenFault.{GenFault}
 use Rattle.b2_generate.specs.declared.fault.GenFault.TheVariants as generating
 use Rattle.b2_props.specs.declared.request_fault.RequestFault.TheVariants as requesting
 use Rattle.b2_refusals.specs.declared.fault.Fault.{Fault}
 use Rattle.b2_refusals.specs.declared.fault.Fault.TheVariants as faults
-use Rattle.b2_walk.specs.declared.fault.LoadFault.{LoadFault}
-use Rattle.b2_walk.specs.declared.fault.LoadFault.TheVariants as loading
+use Rattle.b2_project_walk.specs.declared.fault.LoadFault.{LoadFault}
+use Rattle.b2_project_walk.specs.declared.fault.LoadFault.TheVariants as loading
 use Rattle.jam_effects.specs.Causes.{cause_of, IsWhole as IsWholeCause}
 use Rattle.jam_effects.specs.declared.fault.EvalFault.{EvalFault}
 use Rattle.jam_effects.specs.declared.fault.EvalFault.TheVariants as evaluating

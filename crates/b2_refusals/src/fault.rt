@@ -2,8 +2,8 @@
 use b2_base::list::List;
 use b2_base::path::Path;
 use b2_generate::fault::GenFault;
+use b2_project_walk::fault::LoadFault;
 use b2_props::request_fault::RequestFault;
-use b2_walk::fault::LoadFault;
 use jam_effects::fault::EvalFault;
 
 /// Why the program refuses what it is asked for. No fault within one is of the host or out of memory.

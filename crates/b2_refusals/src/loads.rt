@@ -9,7 +9,7 @@ use crate::evaluations::{eval_text, lex_text, syntax_text};
 use crate::pieces::{concat, concat_at, size_text};
 use b2_base::fault::OutOfMemory;
 use b2_features::fault::FeatureFault;
-use b2_walk::fault::LoadFault;
+use b2_project_walk::fault::LoadFault;
 use jam_parser::fault::SyntaxFault;
 use std::alloc::Global;
 

@@ -7,7 +7,7 @@ use Rattle.b2_runs.proofs.OutputsAreClean.{out_bytes}
 use Rattle.b2_runs.proofs.CountedInOrder.{bad_by_count}
 use Rattle.b2_runs.proofs.NothingStartsAfterwards.{nothing_starts_afterwards}
 use Rattle.b2_runs.proofs.ReadsOnce.{scanned_is_not_read}
-use Rattle.b2_runs.proofs.NoTwoAnswers.{none_stuck_none_cycle}
+use Rattle.b2_runs.proofs.AnswersExcludeEachOther.{none_stuck_none_cycle}
 
 pub all_went_starts_nothing : AllWentStartsNothing
 all_went_starts_nothing u events later disk quit jobs i step path apart sound told fits run_later makes calm c =

@@ -71,7 +71,7 @@ pub mod ReplacedIsOther
 pub mod CutLogIsTrue
 pub mod RunIsPrefix
 pub mod LinesFollow
-pub mod NoTwoAnswers
+pub mod AnswersExcludeEachOther
 pub mod AllWentStartsNothing
 pub mod TrueThroughSession
 pub mod SessionEndsClean

@@ -29,7 +29,7 @@ pub mod scan_lines_tell;
 pub mod sessions_end_clean;
 pub mod settled_afterwards;
 pub mod settled_is_clean;
-pub mod stale_by_five_points;
+pub mod stale_by_points;
 pub mod steps;
 pub mod steps_by_numbers;
 pub mod stuck_is_cycle;

@@ -12,7 +12,7 @@ use Rattle.b2_sched.specs.declared.state.State.{State}
 use Rattle.b2_sched.specs.declared.state.State.TheVariants.{Unjudged, Stale, Running, Settled}
 use Rattle.b2_sched.specs.NumberSets.{Has, HasNone, IsLeast}
 use Rattle.b2_sched.specs.Schedules.{Schedule, shown, state_of, IsUnjudged, IsStale, IsRunning, IsStep, Needs, CanLook, dependents_of, is_running, running}
-use Rattle.b2_sched.specs.Calls.{with_need, Settles, is_empty, MakesOneOf, IsNew, StartsNext, StartsNone}
+use Rattle.b2_sched.specs.SchedulerCalls.{with_need, Settles, is_empty, MakesOneOf, IsNew, StartsNext, StartsNone}
 use Rattle.b2_sched.specs.Keeping.{IsKept, IsWoken, AreWanted}
 use Rattle.b2_sched.proofs.IndexFindsTheLowest.{had_other, has_other, none_has}
 use Rattle.b2_sched.proofs.ChangesKeepTheInvariant.{not_two, some_in, needs_of_asked}

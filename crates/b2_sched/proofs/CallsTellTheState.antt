@@ -9,7 +9,7 @@ use Rattle.b2_sched.specs.declared.state.State.{State}
 use Rattle.b2_sched.specs.declared.state.State.TheVariants.{Unjudged, Stale, Running, Settled, Failed}
 use Rattle.b2_sched.specs.NumberSets.{Has}
 use Rattle.b2_sched.specs.Schedules.{Schedule, state_of, IsUnjudged, IsStep, Needs, IsFirst, IsNeeded, CanLook, dependents_of, is_running, IsSettled, IsFailed}
-use Rattle.b2_sched.specs.Calls.{IsNew, looked_at, with_need, with_lack, with_stale, with_start, with_failure, Settles, is_empty}
+use Rattle.b2_sched.specs.SchedulerCalls.{IsNew, looked_at, with_need, with_lack, with_stale, with_start, with_failure, Settles, is_empty}
 use Rattle.b2_sched.specs.Keeping.{IsKept, LooksNext}
 use Rattle.b2_sched.specs.Histories.{Call, Call.looks, Call.needs, Call.lacks, Call.stale, Call.settles, Call.starts, Call.fails, Makes, After, After.new, After.call, IsDue, LooksByCalls, NeedsByCalls, EndsByCalls}
 use Rattle.b2_sched.proofs.IndexFindsTheLowest.{had_other, has_other, had_or_is, has_still, has_set}

@@ -11,7 +11,7 @@ use Rattle.b2_sched.specs.declared.state.State.TheVariants.{Unjudged, Stale, Run
 use Rattle.b2_sched.specs.NumberSets.{Has, IsLeast}
 use Rattle.b2_runs.specs.Numbers.{NeededOf, NeededOf.first, NeededOf.of_needed}
 use Rattle.b2_sched.specs.Schedules.{Schedule, state_of, IsUnjudged, IsStale, IsRunning, IsSettled, IsStep, Needs, IsFirst, IsNeeded, CanLook, dependents_of, is_running, running}
-use Rattle.b2_sched.specs.Calls.{looked_at, with_need, with_lack, with_stale, with_start, with_failure, Settles, is_empty}
+use Rattle.b2_sched.specs.SchedulerCalls.{looked_at, with_need, with_lack, with_stale, with_start, with_failure, Settles, is_empty}
 use Rattle.b2_sched.specs.Keeping.{IsAsked, IsKept, LooksNext}
 use Rattle.b2_sched.proofs.IndexFindsTheLowest.{has_set, has_still, had_or_is, had_other, has_other}
 use Rattle.b2_sched.proofs.DependentsWakeOneByOne.{only_one, one_has, none_in_empty}

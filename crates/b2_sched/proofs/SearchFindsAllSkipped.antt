@@ -12,7 +12,7 @@ use Rattle.b2_sched.specs.declared.state.State.{State}
 use Rattle.b2_sched.specs.declared.state.State.TheVariants.{Unjudged, Stale, Running, Settled, Failed}
 use Rattle.b2_sched.specs.NumberSets.{Has}
 use Rattle.b2_sched.specs.Schedules.{Schedule, state_of, IsFailed, Needs, IsLeft, IsSkipped, QuitsNow, dependents_of}
-use Rattle.b2_sched.specs.Calls.{is_empty}
+use Rattle.b2_sched.specs.SchedulerCalls.{is_empty}
 use Rattle.b2_sched.specs.Keeping.{IsKept}
 use Rattle.b2_sched.specs.Searches.{is_left, AreLeftFlags, is_new, found_too, pending_too, AreFound, IsSearch}
 use Rattle.b2_sched.proofs.IndexFindsTheLowest.{has_set, has_still, had_or_is, none_has}

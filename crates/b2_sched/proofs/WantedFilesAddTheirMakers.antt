@@ -7,7 +7,7 @@ use Rattle.std.proofs.lemmas.Bool.{cases_eq}
 use Rattle.std.proofs.lemmas.List.{get_or-set_same, get_or-set_other}
 use Rattle.b2_plan.specs.declared.step.Step.{Step}
 use Rattle.b2_plan.specs.Plans.{maker_of, maker_from}
-use Rattle.b2_sched.specs.Calls.{MakesOneOf}
+use Rattle.b2_sched.specs.SchedulerCalls.{MakesOneOf}
 use Rattle.b2_sched.specs.NumberSets.{Has, HasNone}
 use Rattle.b2_sched.specs.Keeping.{AreWanted, asked_too, looked_too}
 use Rattle.b2_sched.proofs.IndexFindsTheLowest.{has_set, has_still, had_or_is}

@@ -2,7 +2,7 @@ use Rattle.std.specs.Prelude.{◌≡◌, ◌⊎◌, ◌↔◌, ℕ, Bool, List, 
 use Rattle.std.specs.List.{Contains}
 use Rattle.b2_plan.specs.declared.step.Step.{Step}
 use Rattle.b2_sched.specs.Schedules.{Schedule, IsStep, IsNeeded, IsUnjudged, IsStale, IsRunning, IsSettled, Needs, CanLook, IsFailed}
-use Rattle.b2_sched.specs.Calls.{IsNew, looked_at, with_need, with_lack, with_stale, with_start, with_failure, Settles}
+use Rattle.b2_sched.specs.SchedulerCalls.{IsNew, looked_at, with_need, with_lack, with_stale, with_start, with_failure, Settles}
 use Rattle.b2_sched.specs.Keeping.{IsKept, LooksNext}
 
 -- What a call told, or took: that a step is looked at, needs another one, lacks a source, is stale, has settled, is started, has

@@ -12,7 +12,7 @@ use Rattle.b2_runs.specs.Cycles.{IsStepCycle}
 use Rattle.b2_runs.specs.Numbers.{MakesWanted, NeedsStep, LacksSource, IsStaleStep}
 use Rattle.b2_runs.specs.Numbers as by_number
 use Rattle.b2_sched.specs.Schedules.{Schedule, IsFirst, IsNeeded, IsStale, IsRunning, IsSettled, IsFailed, Needs, Lacks, CanLook, IsLeft, IsSkipped, IsStuck, NoneStuck, AreJudged, running}
-use Rattle.b2_sched.specs.Calls.{StartsNext, StartsNone}
+use Rattle.b2_sched.specs.SchedulerCalls.{StartsNext, StartsNone}
 use Rattle.b2_sched.specs.Ends.{IsCycleOf}
 use Rattle.b2_sched.specs.Sound.{IsSound}
 

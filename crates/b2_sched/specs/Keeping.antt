@@ -3,7 +3,7 @@ use Rattle.std.specs.List.{Contains}
 use Rattle.b2_sched.specs.declared.state.State.{State}
 use Rattle.b2_sched.specs.declared.state.State.TheVariants.{Unjudged, Stale, Running, Settled, Failed}
 use Rattle.b2_plan.specs.declared.step.Step.{Step}
-use Rattle.b2_sched.specs.Calls.{MakesOneOf}
+use Rattle.b2_sched.specs.SchedulerCalls.{MakesOneOf}
 use Rattle.b2_sched.specs.NumberSets.{Has}
 use Rattle.b2_sched.specs.Schedules.{Schedule, IsUnjudged, IsStale, IsSettled, IsStep, Needs, IsNeeded, CanLook, dependents_of, running}
 

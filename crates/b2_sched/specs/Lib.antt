@@ -7,7 +7,7 @@
 
 pub mod NumberSets
 pub mod Schedules
-pub mod Calls
+pub mod SchedulerCalls
 pub mod Ends
 pub mod Keeping
 pub mod Searches

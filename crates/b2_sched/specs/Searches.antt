@@ -3,7 +3,7 @@ use Rattle.std.specs.List.{Contains}
 use Rattle.b2_sched.specs.declared.state.State.{State}
 use Rattle.b2_sched.specs.declared.state.State.TheVariants.{Unjudged, Stale, Running, Settled, Failed}
 use Rattle.b2_sched.specs.NumberSets.{Has}
-use Rattle.b2_sched.specs.Calls.{is_empty}
+use Rattle.b2_sched.specs.SchedulerCalls.{is_empty}
 use Rattle.b2_sched.specs.Schedules.{Schedule, Needs, Lacks, IsFailed, IsLeft, IsSkipped}
 
 -- the flags of the steps that are left and were not found

@@ -5,7 +5,7 @@ ghost use Rattle.b2_sched.specs.NumberSets.{Has};
 ghost use Rattle.b2_sched.specs.Cycles.{NeedsIn};
 ghost use Rattle.b2_sched.specs.Reaches.{Reached};
 
-use crate::skips::Search;
+use crate::skips::SkipSearch;
 use b2_base::fault::OutOfMemory;
 use b2_base::list::List;
 use std::alloc::Global;
@@ -24,7 +24,7 @@ pub fn reached(
 {
     let left = vec![in alloc; true; dependents.len()]?;
     let found = vec![in alloc; false; dependents.len()]?;
-    let mut search = Search {
+    let mut search = SkipSearch {
         left,
         found,
         pending: Vec::new(alloc),

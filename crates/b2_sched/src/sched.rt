@@ -64,7 +64,7 @@ impl Model for Sched {
 impl Sched {
     ghost use Rattle.std.specs.Prelude.{◌≡◌, ◌↔◌, ◌+◌, ◌≤◌, ◌<◌, ℕ, true, false, length, IsTrue, IfOk, OnOk, OnErr, MatchOption};
     ghost use Rattle.b2_sched.specs.Schedules.{Schedule, IsStep, IsNeeded, IsUnjudged, IsRunning, IsSettled, CanLook};
-    ghost use Rattle.b2_sched.specs.Calls.{IsNew, looked_at, with_need, with_lack, with_stale, with_start, with_failure, Settles, StartsNext, StartsNone};
+    ghost use Rattle.b2_sched.specs.SchedulerCalls.{IsNew, looked_at, with_need, with_lack, with_stale, with_start, with_failure, Settles, StartsNext, StartsNone};
     ghost use Rattle.b2_sched.specs.Keeping.{LooksNext};
     ghost use Rattle.b2_sched.specs.Sound.{IsSound};
 

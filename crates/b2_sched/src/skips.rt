@@ -36,13 +36,13 @@ pub fn left_flags(
 
 /// The steps that are left, those of them that were found to be skipped, and those whose dependents are still to be found.
 #[derive(Drop)]
-pub struct Search {
+pub struct SkipSearch {
     pub left: Vec<bool>,
     pub found: Vec<bool>,
     pub pending: Vec<u32>,
 }
 
-impl Search {
+impl SkipSearch {
     /// Finds a step, if it is left and was not found.
     fn find(&mut self, number: u32) -> Result<(), OutOfMemory>
         requires size { length self.old.found.items ≡ length self.old.left.items }
@@ -76,7 +76,7 @@ impl Search {
     pub fn into_found(self) -> Vec<bool>
         ensures { result.items ≡ self.found.items }
     {
-        let Search {
+        let SkipSearch {
             left,
             found,
             pending,

@@ -8,10 +8,10 @@ use Rattle.b2_runs.proofs.FirstElementOrLater.{Contains_here, Contains_there}
 use Rattle.b2_runs.proofs.SessionEndsClean.{session_splits}
 use Rattle.b2_runs.proofs.TrueThroughSession.{so_before, past_grows_through_session, true_through_session}
 use Rattle.b2_drain.specs.Drains.{Made}
-use Rattle.b2_words.specs.Words.{Word}
+use Rattle.b2_command_line.specs.Words.{Word}
 use Rattle.b2_top.specs.declared.answer.Answer.{Answer}
 use Rattle.b2_top.specs.Plans.{TellsApart, making_by}
-use Rattle.b2_sessions.specs.Calls.{IsCall}
+use Rattle.b2_sessions.specs.BuildCalls.{IsCall}
 use Rattle.b2_sessions.proofs.CallsLeaveTrueLogs.{keeps_past, tells_less, calls_leave_true}
 use Rattle.b2_session_laws.specs.Neighbours.{UpdatesAreNeighbours, StopAndUpdateAreNeighbours}
 

@@ -14,12 +14,12 @@ use Rattle.b2_runs.specs.UpdateAnswers.UpdateAnswer.{all_went, failed as some_fa
 use Rattle.b2_runs.proofs.NextStartsNoMore.{none_starts_after_all_went, none_done_starts_again, none_done_starts_after_stop}
 use Rattle.b2_runs.proofs.TrueThroughSession.{true_shown, so_shown}
 use Rattle.b2_drain.specs.Drains.{Made}
-use Rattle.b2_words.specs.Words.{Word}
+use Rattle.b2_command_line.specs.Words.{Word}
 use Rattle.b2_top.specs.declared.answer.Answer.TheVariants as answers
 use Rattle.b2_top.specs.Builds.{MayAnswer}
 use Rattle.b2_top.specs.LastLines.{IsUnwritten}
 use Rattle.b2_top.specs.Plans.{HasPlan, TellsApart, making_by}
-use Rattle.b2_sessions.specs.Calls.{update_of}
+use Rattle.b2_sessions.specs.BuildCalls.{update_of}
 use Rattle.b2_session_laws.specs.Neighbours.{AreNeighbours, AreOfOnePlan, StartsNoMore, StartsNoneAgain, NextIsFresh, NoWorkIsLost, StopLosesNoWork}
 
 -- Ok is no answer of an update whose verdicts were not written

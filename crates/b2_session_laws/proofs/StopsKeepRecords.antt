@@ -1,7 +1,7 @@
 -- What was done well before the last start of a call that was stopped is on record once the host was opened again.
 use Rattle.std.proofs.Common.{◌≡◌, ◌⊎◌, ℕ, ◌≤◌, Bool, true, List, [], ◌∷◌, ◌++◌, length, Option, Some, None, Result, Ok, inl, inr, sym, ap, subst, ◌∙◌, append_assoc, append-nil}
-use Rattle.b2_front.specs.Laws.{OneMeaning}
-use Rattle.b2_front.specs.Meaning.{Refusal, Means}
+use Rattle.b2_prepare.specs.Laws.{OneMeaning}
+use Rattle.b2_prepare.specs.Meaning.{Refusal, Means}
 use Rattle.b2_generate.specs.Planning.{Planned}
 use Rattle.b2_host.specs.ChildProcesses.{BothTold, ChangesOnlyOutputs}
 use Rattle.b2_host.specs.Disks.{Folder, Disk, bytes_at}
@@ -27,13 +27,13 @@ use Rattle.b2_runs.proofs.RecordIsTrue.{distinguishes_less}
 use Rattle.b2_runs.proofs.StopLeavesNone.{noted_through_work}
 use Rattle.b2_runs.proofs.TrueThroughSession.{shown_is_one, shows_reopened, past_grows}
 use Rattle.b2_drain.specs.Drains.{Made}
-use Rattle.b2_words.specs.Words.{Word}
+use Rattle.b2_command_line.specs.Words.{Word}
 use Rattle.b2_top.specs.Answered.{AreKept}
 use Rattle.b2_top.specs.Plans.{HasPlan, options_of, update_at, update_for, MeetsPremises}
-use Rattle.b2_top.specs.Told.{StaysStill}
+use Rattle.b2_top.specs.BetweenMoments.{StaysStill}
 use Rattle.b2_top.specs.declared.answer.Answer.{Answer}
 use Rattle.b2_top.specs.declared.build_command.BuildCommand.{BuildCommand}
-use Rattle.b2_sessions.specs.Calls.{update_of, HasCome, IsCall}
+use Rattle.b2_sessions.specs.BuildCalls.{update_of, UpdateHasCome, IsCall}
 use Rattle.b2_sessions.proofs.CallsLeaveTrueLogs.{seen_before}
 use Rattle.b2_session_laws.specs.Stops.{StopKeeps}
 use Rattle.b2_session_laws.proofs.NothingStartsAgain.{same_rest}
@@ -136,7 +136,7 @@ module _ (law : OneMeaning) (made : Made) (words : List Word) (answer : Answer) 
       same_rest before.host.children.events s.events []
       (sym s.events_are ∙ ap (λ children. children.events) still.children ∙ fused_events ∙ sym (append-nil before.host.children.events))
 
-  module _ (disk : Disk) (shows : Shows s.fused disk) (come : HasCome made words answer s.fused.host s.between.host disk) (first log : List LogLine) (is_first : IsLogIn disk.now first)
+  module _ (disk : Disk) (shows : Shows s.fused disk) (come : UpdateHasCome made words answer s.fused.host s.between.host disk) (first log : List LogLine) (is_first : IsLogIn disk.now first)
       (p : MeetsPremises (update_for made come.plan first) disk r.new) (is_log : IsLogIn r.new.now log) (fits : length (held_bytes (log_file r.new.now)) ≤ log_limit) where
     abbrev u : Update
     u = update_for made come.plan first
@@ -174,7 +174,7 @@ module _ (law : OneMeaning) (made : Made) (words : List Word) (answer : Answer) 
           | inr (b, noted) ↦ finished_is_recorded u b.front r.new.now log quit jobs i step members noted at_i (begun_holds_earlier u h.events front more k (Done i true) b (same ∙ cut) done) file closure
         ]
 
-  kept : (disk : Disk) → Shows s.fused disk → StaysStill s.fused.host s.between.host ⊎ HasCome made words answer s.fused.host s.between.host disk → Kept disk r.new
+  kept : (disk : Disk) → Shows s.fused disk → StaysStill s.fused.host s.between.host ⊎ UpdateHasCome made words answer s.fused.host s.between.host disk → Kept disk r.new
   kept disk shows (inl still) plan first log events is_first p are is_log fits = λ quit jobs k i front rest step members split done at_i file closure.
       let (more, cut) = up_to_start s.events s.events r.ends front rest k r.open_ends (sym (all_events events are) ∙ split) in
       absurd (no_start front more k (sym (still_none still) ∙ cut))
@@ -185,7 +185,7 @@ module _ (law : OneMeaning) (made : Made) (words : List Word) (answer : Answer) 
 
   both_kept : BothTold Kept before.host.disk after.host.disk
   both_kept =
-      let (disk, shows, has_done) = seen_before (λ d later. StaysStill s.fused.host s.between.host ⊎ HasCome made words answer s.fused.host s.between.host d) s.fused.host.disk s.between.host.disk r.old r.shows s.updated.has_done in
+      let (disk, shows, has_done) = seen_before (λ d later. StaysStill s.fused.host s.between.host ⊎ UpdateHasCome made words answer s.fused.host s.between.host d) s.fused.host.disk s.between.host.disk r.old r.shows s.updated.has_done in
       subst (λ (o : Option Disk). BothTold Kept o after.host.disk) (sym (sym (ap (λ (m : Moment). m.host.disk) s.fuse) ∙ shows))
       (subst (λ (o : Option Disk). BothTold Kept (Some disk) o) (sym (shows_reopened s.events s.between after r)) (kept disk shows has_done))
 

@@ -14,11 +14,11 @@ use Rattle.b2_runs.specs.Moments.{Moment, IsSameButRisks}
 use Rattle.b2_runs.specs.NextLaws.{IsOfSamePlan, AreEventsBetween}
 use Rattle.b2_runs.specs.Sessions.{Happening, Happening.update, Happening.stop, IsReopened, IsTrueAt, HoldsOfPast, IsSession, IsAskedFor}
 use Rattle.b2_drain.specs.Drains.{Made}
-use Rattle.b2_words.specs.Words.{Word}
+use Rattle.b2_command_line.specs.Words.{Word}
 use Rattle.b2_top.specs.declared.answer.Answer.{Answer}
 use Rattle.b2_top.specs.declared.answer.Answer.TheVariants as answers
 use Rattle.b2_top.specs.Plans.{TellsApart, making_by}
-use Rattle.b2_sessions.specs.Calls.{update_of, HasCome, IsCall}
+use Rattle.b2_sessions.specs.BuildCalls.{update_of, UpdateHasCome, IsCall}
 
 -- Two calls: one between these two moments, and one between those. What comes between the calls is said apart: nothing
 -- (`IsNextAtOnce`), or the host was opened again (`IsNextAfterStop`). The log was true before them, and digests tell contents
@@ -40,8 +40,8 @@ pub record AreNeighbours (made : Made) (words again : List Word) : Type 0 where
 pub record AreOfOnePlan (made : Made) (words again : List Word) (n : AreNeighbours made words again) : Type 0 where
   pub disk : Disk
   pub middle : Disk
-  pub come : HasCome made words n.given n.before.host n.between.host disk
-  pub next : HasCome made again n.answer n.reopened.host n.after.host middle
+  pub come : UpdateHasCome made words n.given n.before.host n.between.host disk
+  pub next : UpdateHasCome made again n.answer n.reopened.host n.after.host middle
   pub same : IsOfSamePlan (update_of made come.plan) (update_of made next.plan)
   pub fits : length (held_bytes (log_file next.updated.old.now)) ≤ log_limit
 

@@ -4,11 +4,11 @@ use Rattle.b2_runs.specs.Moments.{Moment}
 use Rattle.b2_runs.specs.SessionLaws.{LeaveTrue}
 use Rattle.b2_runs.specs.Sessions.{IsStop}
 use Rattle.b2_drain.specs.Drains.{Made}
-use Rattle.b2_words.specs.Words.{Word}
+use Rattle.b2_command_line.specs.Words.{Word}
 use Rattle.b2_top.specs.declared.answer.Answer.{Answer}
 use Rattle.b2_top.specs.Answered.{HoldsAfterwards, AreKept}
 use Rattle.b2_top.specs.Plans.{TellsApart, making_by}
-use Rattle.b2_sessions.specs.Calls.{IsCall}
+use Rattle.b2_sessions.specs.BuildCalls.{IsCall}
 
 -- Once the host was opened again after a call that was stopped, of each step that was done well before the last start the log
 -- has a record that agrees with the files. So it is after a call that was not stopped, by `kept` of `run_b2`.

@@ -1,7 +1,7 @@
 //! What a stop keeps, and what a call leaves true.
 ghost use Rattle.b2_session_laws.specs.Stops.{StopKeeps, CallsLeaveTrue};
 
-use b2_front::laws::one_meaning;
+use b2_prepare::laws::one_meaning;
 
 /// After a stop the log has a record of each step that was done well before the last start.
 pub fn stop_keeps()

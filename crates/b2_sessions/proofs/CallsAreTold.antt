@@ -15,7 +15,7 @@ use Rattle.b2_runs.specs.UpdateAnswers.{UpdateAnswer, LeavesNone, WithLog}
 use Rattle.b2_runs.specs.UpdateAnswers.UpdateAnswer.{all_went, failed as some_failed, step_cycle, too_big, host_fault, sink_fault, out_of_memory}
 use Rattle.b2_drain.specs.Drains.{Made}
 use Rattle.b2_endings.specs.Endings.{lists_of}
-use Rattle.b2_words.specs.Words.{Word}
+use Rattle.b2_command_line.specs.Words.{Word}
 use Rattle.b2_top.specs.declared.answer.Answer.{Answer}
 use Rattle.b2_top.specs.declared.answer.Answer.TheVariants as answers
 use Rattle.b2_top.specs.declared.build_command.BuildCommand.{BuildCommand}
@@ -23,9 +23,9 @@ use Rattle.b2_top.specs.Commands.{build_command}
 use Rattle.b2_top.specs.Answered.{IsAnswered}
 use Rattle.b2_top.specs.Builds.{MayAnswer, HasBuilt, RefusedBy, HappenedBy}
 use Rattle.b2_top.specs.Plans.{TellsApart, making_by}
-use Rattle.b2_top.specs.Told.{StaysStill}
+use Rattle.b2_top.specs.BetweenMoments.{StaysStill}
 use Rattle.b2_top.proofs.JobsAreFromOne.{some_job, few_jobs}
-use Rattle.b2_sessions.specs.Calls.{HasCome, HasDone, IsCall}
+use Rattle.b2_sessions.specs.BuildCalls.{UpdateHasCome, HasDone, IsCall}
 
 -- what follows of a log at entry, for each way to end
 log_map : (now : Folder) (P Q : List LogLine → Type 0) (ended : UpdateAnswer) → ((log : List LogLine) → P log → Q log) → WithLog now P ended → WithLog now Q ended
@@ -60,7 +60,7 @@ module _ (made : Made) (words : List Word) (before after : Outside) (disk later 
     pub true_log : TellsApart words later.past → IsTrueOn (making_by made) disk → IsTrueOn (making_by made) later
 
   -- an update has come
-  come : IsSeen → (answer : Answer) (ended : UpdateAnswer) (built : HasBuilt made words before after disk later ended) → MayAnswer built.plan ended answer → HasCome made words answer before after disk
+  come : IsSeen → (answer : Answer) (ended : UpdateAnswer) (built : HasBuilt made words before after disk later ended) → MayAnswer built.plan ended answer → UpdateHasCome made words answer before after disk
   come seen answer ended built may = record {
     plan = built.plan;
     ended = ended;
@@ -86,7 +86,7 @@ module _ (made : Made) (words : List Word) (before after : Outside) (disk later 
     };
   }
 
-  by_refusal : IsSeen → (fault : Fault) → RefusedBy made words before after disk later fault → StaysStill before after ⊎ HasCome made words (answers.Refused fault) before after disk
+  by_refusal : IsSeen → (fault : Fault) → RefusedBy made words before after disk later fault → StaysStill before after ⊎ UpdateHasCome made words (answers.Refused fault) before after disk
   by_refusal seen (faults.Load fault) (still, cause) = inl still
   by_refusal seen (faults.Request fault) (still, cause) = inl still
   by_refusal seen (faults.Gen fault) (still, cause) = inl still
@@ -94,7 +94,7 @@ module _ (made : Made) (words : List Word) (before after : Outside) (disk later 
   by_refusal seen (faults.TooBig path size) built = inr (come seen (answers.Refused (faults.TooBig path size)) (too_big path size) built (inl refl))
 
   -- nothing was done, or an update has come
-  by_answer : IsSeen → (answer : Answer) → HappenedBy made words before after disk later answer → StaysStill before after ⊎ HasCome made words answer before after disk
+  by_answer : IsSeen → (answer : Answer) → HappenedBy made words before after disk later answer → StaysStill before after ⊎ UpdateHasCome made words answer before after disk
   by_answer seen answers.Ok built = inr (come seen answers.Ok all_went built (inl refl))
   by_answer seen (answers.Failed lists) built = inr (come seen (answers.Failed lists) (some_failed (lists_of lists)) built refl)
   by_answer seen (answers.Refused fault) refused = by_refusal seen fault refused
@@ -117,7 +117,7 @@ module _ (made : Made) (words : List Word) (answer : Answer) (before after : Mom
           → BothTold (λ disk later. HappenedBy made words before.host after.host disk later answer) x y
           → BothTold (λ disk later. TellsApart words later.past → IsTrueOn (making_by made) disk → IsTrueOn (making_by made) later) x y
           → BothTold BeginsPast x y → IfSome x IsConsistent → IfSome y IsConsistent
-          → BothTold (λ disk later. StaysStill before.host after.host ⊎ HasCome made words answer before.host after.host disk) x y
+          → BothTold (λ disk later. StaysStill before.host after.host ⊎ UpdateHasCome made words answer before.host after.host disk) x y
       go None None shows shows_then happened true_log begins c d = tt
       go None (Some later) shows shows_then happened true_log begins c d = absurd begins
       go (Some disk) None shows shows_then happened true_log begins c d = absurd begins

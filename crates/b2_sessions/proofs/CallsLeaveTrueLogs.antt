@@ -14,11 +14,11 @@ use Rattle.b2_runs.specs.Sessions.{IsTrueAt, HoldsOfPast, PastGrows, IsStop}
 use Rattle.b2_runs.proofs.TrueByFile.{true_where_still}
 use Rattle.b2_runs.proofs.TrueThroughSession.{true_shown, work_leaves_log, past_grows, grows_shown, so_before, shows_reopened}
 use Rattle.b2_drain.specs.Drains.{Made}
-use Rattle.b2_words.specs.Words.{Word}
+use Rattle.b2_command_line.specs.Words.{Word}
 use Rattle.b2_top.specs.declared.answer.Answer.{Answer}
 use Rattle.b2_top.specs.Plans.{TellsApart, making_by}
-use Rattle.b2_top.specs.Told.{StaysStill}
-use Rattle.b2_sessions.specs.Calls.{update_of, HasCome, IsCall}
+use Rattle.b2_top.specs.BetweenMoments.{StaysStill}
+use Rattle.b2_sessions.specs.BuildCalls.{update_of, UpdateHasCome, IsCall}
 
 -- what follows of both disks, where they are visible
 both_true : (N T : Disk → Type 0) (before after : Option Disk) → BothTold (λ x y. N y → T x → T y) before after → IfSome after N → IfSome before T → IfSome after T
@@ -58,7 +58,7 @@ module _ (made : Made) (words : List Word) (answer : Answer) where
   -- the children that a call leaves do not write the log
   log_stays : (before after : Moment) (old new : Disk) → IsCall made words answer before after → Shows after old → ChangesOnlyOutputs after.host.children.running old new → bytes_at new.now log_path ≡ bytes_at old.now log_path
   log_stays before after old new call shows worked =
-      let (disk, shows_before, has_done) = seen_before (λ d later. StaysStill before.host after.host ⊎ HasCome made words answer before.host after.host d) before.host.disk after.host.disk old shows call.has_done in
+      let (disk, shows_before, has_done) = seen_before (λ d later. StaysStill before.host after.host ⊎ UpdateHasCome made words answer before.host after.host d) before.host.disk after.host.disk old shows call.has_done in
       elim has_done [
         | inl still ↦ ap (option_map (λ (file : File). file.bytes)) (worked.others log_path (λ w. none_runs after.host.children.running w.child (ap (λ children. children.running) still.children ∙ call.idle) w.runs))
         | inr come ↦ (let u = update_of made come.plan in work_leaves_log u.build.steps u.build.roots after.host.children.running old new come.updated.apart come.updated.left_open.planned worked)

@@ -18,11 +18,11 @@ use Rattle.b2_memory.specs.Memories.{Memory, with_edit, renewed}
 use Rattle.b2_memory.specs.Results.{made_of}
 use Rattle.b2_memory.specs.declared.memory.MemoryHost.{MemoryHost}
 use Rattle.b2_runs.specs.Moments.{Moment}
-use Rattle.b2_words.specs.Words.{Word}
+use Rattle.b2_command_line.specs.Words.{Word}
 use Rattle.b2_top.specs.declared.answer.Answer.{Answer}
 use Rattle.b2_sessions.specs.declared.fault.SessionFault.{SessionFault}
 use Rattle.b2_sessions.specs.declared.fault.SessionFault.TheVariants as faults
-use Rattle.b2_sessions.specs.Calls.{IsCall}
+use Rattle.b2_sessions.specs.BuildCalls.{IsCall}
 use Rattle.b2_sessions.specs.Courses.{HasRun, NoWaitMayFail, IsReady, OneMore, HasHappenedOrNot}
 use Rattle.b2_sessions.specs.Events.{writes_log}
 use Rattle.b2_sessions.specs.Results.{IsAtLogEdit, StopsBy, Ran, RanWhole}

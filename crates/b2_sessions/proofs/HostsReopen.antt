@@ -14,9 +14,9 @@ use Rattle.b2_runs.specs.Moments.{IsSameButRisks}
 use Rattle.b2_runs.specs.PlanChildren.{AreOfOpenSteps}
 use Rattle.b2_runs.specs.Sessions.{IsReopened, IsStop}
 use Rattle.b2_update.specs.Moments.{moment}
-use Rattle.b2_words.specs.Words.{Word}
+use Rattle.b2_command_line.specs.Words.{Word}
 use Rattle.b2_top.specs.declared.answer.Answer.{Answer}
-use Rattle.b2_sessions.specs.Calls.{IsCall}
+use Rattle.b2_sessions.specs.BuildCalls.{IsCall}
 use Rattle.b2_sessions.specs.Courses.{moment_of, IsReady}
 use Rattle.b2_sessions.specs.Scenes.{scene_of, fused, IsStopped}
 use Rattle.b2_sessions.proofs.ChildrenEndInOrder.{AreDrained, drained, none_after}

@@ -18,7 +18,7 @@ use Rattle.b2_memory.specs.Scripts.{no_risks, risks_of, risks_with_fuse, AreAmon
 use Rattle.b2_memory.specs.declared.memory.MemoryHost.{MemoryHost}
 use Rattle.b2_runs.specs.Sessions.{IsEdit, Comes, Happens}
 use Rattle.b2_top.specs.declared.answer.Answer.{Answer}
-use Rattle.b2_sessions.specs.Calls.{IsCall}
+use Rattle.b2_sessions.specs.BuildCalls.{IsCall}
 use Rattle.b2_sessions.specs.Courses.{moment_of, IsSessionOf}
 use Rattle.b2_sessions.specs.Events.{happening_of, happenings, writes_log}
 use Rattle.b2_sessions.specs.Scenes.{Scene, scene_of, seen, fused, Did, Follow, WereRun}

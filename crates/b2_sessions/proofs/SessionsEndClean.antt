@@ -17,12 +17,12 @@ use Rattle.b2_runs.proofs.DiskStaysSound.{true_log_serves}
 use Rattle.b2_runs.proofs.SessionEndsClean.{session_splits}
 use Rattle.b2_runs.proofs.SourcesAreKept.{log_in_roots}
 use Rattle.b2_runs.proofs.TrueThroughSession.{true_shown, so_shown, so_before, true_through_session}
-use Rattle.b2_words.specs.Words.{Word}
+use Rattle.b2_command_line.specs.Words.{Word}
 use Rattle.b2_top.specs.declared.answer.Answer.{Answer}
 use Rattle.b2_top.specs.declared.answer.Answer.TheVariants as answers
 use Rattle.b2_top.specs.Builds.{HasBuilt}
 use Rattle.b2_top.specs.Plans.{TellsApart, making_by}
-use Rattle.b2_sessions.specs.Calls.{update_of, IsCall}
+use Rattle.b2_sessions.specs.BuildCalls.{update_of, IsCall}
 use Rattle.b2_sessions.specs.Courses.{IsSessionOf, LastIsClean, EndsClean}
 use Rattle.b2_sessions.specs.Events.{happening_of, happenings}
 use Rattle.b2_sessions.proofs.CallsLeaveTrueLogs.{keeps_past, tells_less, calls_leave_true}

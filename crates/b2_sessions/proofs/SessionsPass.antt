@@ -16,12 +16,12 @@ use Rattle.b2_memory.specs.declared.memory.MemoryHost.{MemoryHost}
 use Rattle.b2_runs.specs.Moments.{Moment}
 use Rattle.b2_runs.specs.Sessions.{Happening, Happening.edit, Happening.update, Happening.stop, Comes, Happens, IsSession, IsAskedFor}
 use Rattle.b2_runs.proofs.TrueThroughSession.{past_grows_through_session, true_through_session}
-use Rattle.b2_words.specs.Words.{Word}
+use Rattle.b2_command_line.specs.Words.{Word}
 use Rattle.b2_top.specs.declared.answer.Answer.{Answer}
 use Rattle.b2_top.specs.Plans.{TellsApart, making_by}
 use Rattle.b2_sessions.specs.declared.fault.SessionFault.{SessionFault}
 use Rattle.b2_sessions.specs.declared.fault.SessionFault.TheVariants as faults
-use Rattle.b2_sessions.specs.Calls.{IsCall}
+use Rattle.b2_sessions.specs.BuildCalls.{IsCall}
 use Rattle.b2_sessions.specs.Courses.{moment_of, HasRun, IsSessionOf, HasPassed, TrueLogStays}
 use Rattle.b2_sessions.specs.Events.{happening_of, happenings, writes_log, gives_answer}
 use Rattle.b2_sessions.specs.Results.{RanWhole}

@@ -14,11 +14,11 @@ use Rattle.b2_memory.specs.declared.memory.MemoryHost.{MemoryHost}
 use Rattle.b2_runs.specs.Moments.{Moment, Shows}
 use Rattle.b2_runs.specs.SessionLaws.{IsCleanAt}
 use Rattle.b2_runs.specs.Sessions.{IsTrueAt, HoldsOfPast, PastGrows, IsSession, IsAskedFor}
-use Rattle.b2_words.specs.Words.{Word}
+use Rattle.b2_command_line.specs.Words.{Word}
 use Rattle.b2_top.specs.declared.answer.Answer.{Answer}
 use Rattle.b2_top.specs.declared.answer.Answer.TheVariants as answers
 use Rattle.b2_top.specs.Plans.{HasPlan, TellsApart, making_by}
-use Rattle.b2_sessions.specs.Calls.{IsCall, update_of}
+use Rattle.b2_sessions.specs.BuildCalls.{IsCall, update_of}
 use Rattle.b2_sessions.specs.Events.{happenings, writes_log}
 use Rattle.b2_sessions.specs.Scenes.{Scene, Did, WereRun}
 

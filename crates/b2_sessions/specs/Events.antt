@@ -5,7 +5,7 @@ use Rattle.b2_drill.specs.declared.event.Event.{Event}
 use Rattle.b2_drill.specs.declared.event.Event.TheVariants as events
 use Rattle.b2_host.specs.FileCalls.{log_path}
 use Rattle.b2_runs.specs.Sessions.{Happening, Happening.edit, Happening.update, Happening.stop}
-use Rattle.b2_words.specs.Words.{Word}
+use Rattle.b2_command_line.specs.Words.{Word}
 
 -- What happens by an event. Where an update is stopped is no part of it: a stop may come anywhere.
 abbrev pub happening_of : Event → Happening (List Word)

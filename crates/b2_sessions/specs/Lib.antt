@@ -5,7 +5,7 @@
 -- `Courses`: how far a session has come, and what follows of it
 -- `Results`: what its result says
 
-pub mod Calls
+pub mod BuildCalls
 pub mod Events
 pub mod Scenes
 pub mod Courses

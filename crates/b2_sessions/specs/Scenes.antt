@@ -8,9 +8,9 @@ use Rattle.b2_memory.specs.Memories.{Memory, with_edit, with_listed, with_tear, 
 use Rattle.b2_memory.specs.Results.{made_of}
 use Rattle.b2_memory.specs.declared.memory.MemoryHost.{MemoryHost}
 use Rattle.b2_runs.specs.Moments.{Moment}
-use Rattle.b2_words.specs.Words.{Word}
+use Rattle.b2_command_line.specs.Words.{Word}
 use Rattle.b2_top.specs.declared.answer.Answer.{Answer}
-use Rattle.b2_sessions.specs.Calls.{IsCall}
+use Rattle.b2_sessions.specs.BuildCalls.{IsCall}
 
 -- All that a host in memory is, and a sink, at one moment.
 pub record Scene : Type 0 where

@@ -1,7 +1,7 @@
 //! A call of the build command within a session.
 ghost use Rattle.std.specs.Prelude.{◌≡◌, []};
 ghost use Rattle.b2_update.specs.Moments.{moment};
-ghost use Rattle.b2_sessions.specs.Calls.{IsCall};
+ghost use Rattle.b2_sessions.specs.BuildCalls.{IsCall};
 
 use b2_base::text::Text;
 use b2_host::children::Children;

@@ -1,28 +1,28 @@
 -- What a project's own text answers, over two settings that show the same outside its output roots.
 use Rattle.std.proofs.Common.{◌≡◌, ℕ, true, List, [], ◌∷◌, Option, Some, None, Result, slice_get, refl, ap, ap₂, ◌∙◌}
 use std.Path.{fun_ext}
-use Rattle.b2_evaluation.specs.Answers.{Answers}
+use Rattle.b2_evaluator.specs.Answers.{Answers}
 use Rattle.b2_host.specs.Disks.{Folder}
-use Rattle.b2_metatargets.specs.declared.place.Place.{Place}
+use Rattle.b2_declared.specs.declared.place.Place.{Place}
 use Rattle.jam_journal.specs.Tables.{Text}
 use Rattle.jam_journal.specs.Scopes.{Value, enter}
 use Rattle.jam_scope.specs.Worlds.{Worlds}
 use Rattle.jam_scope.specs.Changes.{mark, set_place}
 use Rattle.jam_scope.specs.Lines.{find_rule, actions_place}
 use Rattle.jam_scope.specs.Rules.{Rule}
-use Rattle.jam_eval.specs.Eval.{run_call}
-use Rattle.jam_eval.specs.Faults.{Spot}
-use Rattle.jam_eval.specs.Kept.{Ends}
-use Rattle.jam_eval.specs.Outcomes.{Outcome, gives, faults, then_do, close_frame}
-use Rattle.jam_eval.specs.Rolled.{Job, StepAnswer, nowhere, step_open, back_to, actions_text, call_rolled, rule_if, job_spot, in_step, step_text}
-use Rattle.jam_eval.specs.Settings.{Reading, Setting}
-use Rattle.jam_eval.specs.States.{State, with_world, with_worlds, with_scopes}
-use Rattle.jam_eval.proofs.KeptByEval.{run_call_keeps}
+use Rattle.jam_meaning.specs.Eval.{run_call}
+use Rattle.jam_meaning.specs.Faults.{Spot}
+use Rattle.jam_meaning.specs.Kept.{Ends}
+use Rattle.jam_meaning.specs.Outcomes.{Outcome, gives, faults, then_do, close_frame}
+use Rattle.jam_meaning.specs.Rolled.{Job, StepAnswer, nowhere, step_open, back_to, actions_text, call_rolled, rule_if, job_spot, in_step, step_text}
+use Rattle.jam_meaning.specs.Settings.{Reading, Setting}
+use Rattle.jam_meaning.specs.States.{State, with_world, with_worlds, with_scopes}
+use Rattle.jam_meaning.proofs.KeptByEval.{run_call_keeps}
 use Rattle.jam_effects.specs.declared.fault.EvalFault.{EvalFault}
 use Rattle.jam_natives.specs.Keeping.{Kept}
 use Rattle.jam_natives.specs.Rows.{jam_meaning}
-use Rattle.b2_loaded.specs.Faults.{answer_of}
-use Rattle.b2_loaded.specs.Worlds.{state_in, placed, with_module, call_if, call_found, returned_in, returned_of, text_in, text_of, answers_in}
+use Rattle.b2_own_text.specs.Faults.{answer_of}
+use Rattle.b2_own_text.specs.Worlds.{state_in, placed, with_module, call_if, call_found, returned_in, returned_of, text_in, text_of, answers_in}
 use Rattle.jam_source_laws.specs.Sources.{over, EndsIn, ShowSame, RootsStay}
 use Rattle.jam_source_laws.proofs.EvaluationBySources.{run_call_agrees}
 use Rattle.jam_source_laws.proofs.RootsStay.{roots_kept}

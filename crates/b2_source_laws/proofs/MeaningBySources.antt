@@ -7,33 +7,33 @@ use Rattle.std.proofs.lemmas.List.Folds.{list_any_at}
 use Rattle.b2_base.specs.Normal.{IsNormal}
 use Rattle.b2_base.specs.Below.{is_below}
 use Rattle.b2_base.proofs.TestTellsWhatIsBelow.{below_is}
-use Rattle.b2_evaluation.specs.Answers.{Answers}
+use Rattle.b2_evaluator.specs.Answers.{Answers}
 use Rattle.b2_host.specs.Disks.{Disk, IsConsistent, bytes_at}
-use Rattle.b2_metatargets.specs.declared.whole.Declared.{Declared}
+use Rattle.b2_declared.specs.declared.whole.Declared.{Declared}
 use Rattle.b2_plan.specs.Sources.{IsInRoots}
 use Rattle.b2_props.specs.Sets.{Pair}
 use Rattle.b2_props.specs.Words.{target_words}
 use Rattle.b2_props.specs.Requests.{request_sets, request_fault}
 use Rattle.jam_effects.specs.declared.fault.EvalFault.{EvalFault}
-use Rattle.jam_eval.specs.Settings.{Reading, IsSetting}
+use Rattle.jam_meaning.specs.Settings.{Reading, IsSetting}
 use Rattle.jam_journal.specs.Tables.{Text}
-use Rattle.b2_walk.specs.Walks.{Walk}
+use Rattle.b2_project_walk.specs.Walks.{Walk}
 use Rattle.b2_project.specs.Loads.{loaded, Loads}
 use Rattle.b2_generate.specs.Answers.{Generated}
 use Rattle.b2_generate.specs.Answers as generation
 use Rattle.b2_generate.specs.Faults.{Fault}
-use Rattle.b2_generate.specs.Loaded.{Loaded}
+use Rattle.b2_generate.specs.LoadedProjects.{LoadedProject}
 use Rattle.b2_generate.specs.Planning.{Planned, Plans, planned_of}
-use Rattle.b2_loaded.specs.Names.{names_in}
-use Rattle.b2_loaded.specs.Readings.{reads}
-use Rattle.b2_loaded.specs.Seen.{setting_of}
-use Rattle.b2_loaded.specs.Worlds.{answers_in}
-use Rattle.b2_loaded.proofs.EvaluationsGiveWhatIsTold.{right as rightly_seen}
+use Rattle.b2_own_text.specs.Names.{names_in}
+use Rattle.b2_own_text.specs.Readings.{reads}
+use Rattle.b2_own_text.specs.DiskViews.{setting_of}
+use Rattle.b2_own_text.specs.Worlds.{answers_in}
+use Rattle.b2_own_text.proofs.EvaluationsGiveWhatIsTold.{right as rightly_seen}
 use Rattle.b2_testing.specs.Adding.{with_tests}
 use Rattle.b2_testing.specs.Readying.{IsEquippedFor}
 use Rattle.jam_scope.specs.Worlds.{Worlds}
-use Rattle.b2_front.specs.Meaning.{Refusal, of_load, of_request, of_generation, load_turns, load_setting, project_of, Means}
-use Rattle.b2_front.specs.Meaning.{not_loaded, not_asked, not_planned, planned}
+use Rattle.b2_prepare.specs.Meaning.{Refusal, of_load, of_request, of_generation, load_turns, load_setting, project_of, Means}
+use Rattle.b2_prepare.specs.Meaning.{not_loaded, not_asked, not_planned, planned}
 use Rattle.jam_source_laws.specs.Sources.{is_hidden, ShowSame, BytesAgree, AreRoots}
 use Rattle.jam_source_laws.proofs.RightSettingsShowSame.{files_show_same}
 use Rattle.b2_source_laws.proofs.RootsStayInWalks.{load_settles, equipped_keeps}
@@ -57,12 +57,12 @@ roots_or : {E : Type 0} → List Text → Result Planned (Fault E) → List Text
 roots_or roots (Ok plan) = plan.roots
 roots_or roots (Err why) = roots
 
-roots_of : {E : Type 0} (l : Loaded E) (outcome : generation.Outcome E (List Generated)) → roots_or l.roots (planned_of l outcome) ≡ l.roots
+roots_of : {E : Type 0} (l : LoadedProject E) (outcome : generation.Outcome E (List Generated)) → roots_or l.roots (planned_of l outcome) ≡ l.roots
 unfolding roots_or
 roots_of l (Ok made) = refl
 roots_of l (Err why) = refl
 
-plan_roots : {E : Type 0} (l : Loaded E) (sets : List (List Pair)) (words : List Text) (plan : Planned) → Plans l sets words (Ok plan) → plan.roots ≡ l.roots
+plan_roots : {E : Type 0} (l : LoadedProject E) (sets : List (List Pair)) (words : List Text) (plan : Planned) → Plans l sets words (Ok plan) → plan.roots ≡ l.roots
 unfolding roots_or
 plan_roots l sets words plan plans = ap (roots_or l.roots) plans.is ∙ roots_of l plans.outcome
 
@@ -94,7 +94,7 @@ module _ (disk other : Disk) (refused : Option (ℕ × Text)) (words : List Text
       loads_agree roots (load_setting disk refused) other.now names reading refl shown settled.1 load_turns words (loaded w found) loads (λ frozen. refl) in
       let same : answers_in (setting_of disk) found.places worlds ≡ answers_in (setting_of other) found.places worlds =
       answers_same roots (setting_of disk) other.now names reading refl told found.places worlds later.0 later.1 in
-      let project : Answers EvalFault → Loaded EvalFault = λ answers. record { declared = with_tests found; roots = worlds.now.roots; answers = answers } in
+      let project : Answers EvalFault → LoadedProject EvalFault = λ answers. record { declared = with_tests found; roots = worlds.now.roots; answers = answers } in
       planned w found worlds plan again equips asked (subst (λ answers. Plans (project answers) (request_sets found.registry words) (target_words found.registry words) (Ok plan)) same plans)
 
   same_bytes : (roots : List Text) (plan : Planned) → plan.roots ≡ roots → ((path : Text) → (IsInRoots plan.roots path → ⊥) → bytes_at other.now path ≡ bytes_at disk.now path) → BytesAgree roots disk.now other.now

@@ -1,23 +1,23 @@
 -- The outputs of the plan that files and words come to are apart: `bin` stays an output root, and no two generators have one id.
 use Rattle.std.proofs.Common.{◌≡◌, ℕ, List, Option, Result, Ok, Err, refl, sym, subst}
 use Rattle.b2_host.specs.Disks.{Disk}
-use Rattle.b2_metatargets.specs.declared.fault.DeclaringFault.{DeclaringFault}
-use Rattle.b2_metatargets.specs.declared.whole.Declared.{Declared}
-use Rattle.b2_metatargets.specs.Declaring.{declared}
+use Rattle.b2_declared.specs.declared.fault.DeclaringFault.{DeclaringFault}
+use Rattle.b2_declared.specs.declared.whole.Declared.{Declared}
+use Rattle.b2_declared.specs.Declaring.{declared}
 use Rattle.b2_plan.specs.Plans.{Apart}
 use Rattle.b2_props.specs.Words.{target_words}
 use Rattle.b2_props.specs.Requests.{request_sets}
 use Rattle.jam_effects.specs.declared.fault.EvalFault.{EvalFault}
-use Rattle.jam_eval.specs.Settings.{Setting}
+use Rattle.jam_meaning.specs.Settings.{Setting}
 use Rattle.jam_journal.specs.Tables.{Text}
 use Rattle.jam_natives.specs.Keeping.{Kept}
-use Rattle.b2_walk.specs.Walks.{Walk, declaring, Course, goes_on, refused}
+use Rattle.b2_project_walk.specs.Walks.{Walk, declaring, Course, goes_on, refused}
 use Rattle.b2_project.specs.Loads.{loaded, fails, with_declared, then_declare, Loads}
 use Rattle.b2_generate.specs.Planning.{Planned}
 use Rattle.b2_generation_laws.specs.Laws.{PlansAreApart, IdsAreDistinct}
 use Rattle.b2_testing.specs.Adding.{with_tests}
-use Rattle.b2_front.specs.Meaning.{Refusal, of_load, of_request, of_generation, load_turns, load_setting, project_of, Means}
-use Rattle.b2_front.specs.Meaning.{not_loaded, not_asked, not_planned, planned}
+use Rattle.b2_prepare.specs.Meaning.{Refusal, of_load, of_request, of_generation, load_turns, load_setting, project_of, Means}
+use Rattle.b2_prepare.specs.Meaning.{not_loaded, not_asked, not_planned, planned}
 use Rattle.b2_source_laws.specs.Laws.{MeaningIsApart}
 use Rattle.b2_source_laws.proofs.RootsStayInWalks.{load_settles, bin_stays}
 

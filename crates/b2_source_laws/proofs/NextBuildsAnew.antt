@@ -26,19 +26,19 @@ use Rattle.b2_endings.specs.Endings.{lists_of}
 use Rattle.b2_explain.specs.Cleaning.{IsToClean, IsCleaned}
 use Rattle.b2_explain.specs.Laws.{IsFirstPoint, CleanedIsStale}
 use Rattle.b2_generate.specs.Planning.{Planned}
-use Rattle.b2_front.specs.Laws.{OneMeaning}
-use Rattle.b2_front.specs.Meaning.{Refusal, Means}
-use Rattle.b2_front.specs.declared.refusal.Refusal.TheVariants as refusals
+use Rattle.b2_prepare.specs.Laws.{OneMeaning}
+use Rattle.b2_prepare.specs.Meaning.{Refusal, Means}
+use Rattle.b2_prepare.specs.declared.refusal.PlanRefusal.TheVariants as refusals
 use Rattle.b2_refusals.specs.Wholes.{IsWhole}
 use Rattle.b2_refusals.specs.declared.fault.Fault.TheVariants as faults
-use Rattle.b2_words.specs.Words.{Word}
+use Rattle.b2_command_line.specs.Words.{Word}
 use Rattle.b2_top.specs.declared.answer.Answer.{Answer}
 use Rattle.b2_top.specs.declared.answer.Answer.TheVariants as answers
 use Rattle.b2_top.specs.Builds.{HasBuilt, HappenedBy, LeavesClean}
 use Rattle.b2_top.specs.Cleans.{HasPlan as HasCleaningPlan, LeavesFiles, IsCleanedTold}
 use Rattle.b2_top.specs.Endings.{IfRefused}
 use Rattle.b2_top.specs.Plans.{HasPlan, build_at, update_for, MeetsPremises, making_by}
-use Rattle.b2_top.specs.Told.{Wrote}
+use Rattle.b2_top.specs.BetweenMoments.{Wrote}
 use Rattle.b2_source_laws.specs.AfterCleaning.{IsBuildOf, HasTrueLog, HasNoneFresh, EachStarts, BuildsAnew, NextAfterCleaning}
 use Rattle.b2_source_laws.specs.Laws.{MeaningIsApart}
 use Rattle.b2_source_laws.specs.NextPlans.{SourcesStay}

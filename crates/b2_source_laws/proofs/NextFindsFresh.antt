@@ -15,9 +15,9 @@ use Rattle.b2_runs.specs.UpdateAnswers.{UpdateAnswer, UpdateAnswer.all_went, Upd
 use Rattle.b2_drain.specs.Drains.{Made}
 use Rattle.b2_endings.specs.Endings.{lists_of}
 use Rattle.b2_generate.specs.Planning.{Planned}
-use Rattle.b2_words.specs.Words.{Word}
-use Rattle.b2_front.specs.Laws.{OneMeaning}
-use Rattle.b2_front.specs.Meaning.{Means}
+use Rattle.b2_command_line.specs.Words.{Word}
+use Rattle.b2_prepare.specs.Laws.{OneMeaning}
+use Rattle.b2_prepare.specs.Meaning.{Means}
 use Rattle.b2_refusals.specs.declared.fault.Fault.TheVariants as faults
 use Rattle.b2_top.specs.declared.answer.Answer.{Answer}
 use Rattle.b2_top.specs.declared.answer.Answer.TheVariants as answers

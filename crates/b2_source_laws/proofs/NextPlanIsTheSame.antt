@@ -12,9 +12,9 @@ use Rattle.b2_runs.specs.Outcomes.{OnlyOutputsChange}
 use Rattle.b2_runs.specs.Staleness.{Update}
 use Rattle.b2_drain.specs.Drains.{Made}
 use Rattle.b2_generate.specs.Planning.{Planned}
-use Rattle.b2_words.specs.Words.{Word}
-use Rattle.b2_front.specs.Laws.{OneMeaning}
-use Rattle.b2_front.specs.Meaning.{Means}
+use Rattle.b2_command_line.specs.Words.{Word}
+use Rattle.b2_prepare.specs.Laws.{OneMeaning}
+use Rattle.b2_prepare.specs.Meaning.{Means}
 use Rattle.b2_top.specs.declared.build_command.BuildCommand.{BuildCommand}
 use Rattle.b2_top.specs.Commands.{build_command}
 use Rattle.b2_top.specs.Plans.{HasPlan, update_at, update_for}

@@ -10,27 +10,27 @@ use Rattle.jam_effects.specs.declared.fault.EvalFault.{EvalFault}
 use Rattle.jam_effects.specs.declared.fault.EvalFault.TheVariants as evaluating
 use Rattle.b2_features.specs.declared.fault.FeatureFault.{FeatureFault}
 use Rattle.b2_features.specs.declared.fault.FeatureFault.TheVariants as features
-use Rattle.b2_metatargets.specs.declared.fault.DeclaringFault.TheVariants as declaring_faults
+use Rattle.b2_declared.specs.declared.fault.DeclaringFault.TheVariants as declaring_faults
 use Rattle.b2_props.specs.declared.request_fault.RequestFault.{RequestFault}
 use Rattle.b2_props.specs.declared.request_fault.RequestFault.TheVariants as asking
 use Rattle.b2_alternatives.specs.declared.fault.ChoiceFault.{ChoiceFault}
 use Rattle.b2_alternatives.specs.declared.fault.ChoiceFault.TheVariants as choosing
-use Rattle.b2_conversions.specs.declared.fault.MakingFault.{MakingFault}
-use Rattle.b2_conversions.specs.declared.fault.MakingFault.TheVariants as making
-use Rattle.b2_walk.specs.Faults.{lex_refusal, syntax_refusal, feature_refusal}
-use Rattle.b2_walk.specs.Walks.{Refusal as LoadRefusal, no_jamroot, no_jamfile, too_big, lex, syntax_at, eval, declaring}
-use Rattle.b2_walk.specs.declared.fault.LoadFault.{LoadFault}
-use Rattle.b2_walk.specs.declared.fault.LoadFault.TheVariants as loading
+use Rattle.b2_making.specs.declared.fault.MakingFault.{MakingFault}
+use Rattle.b2_making.specs.declared.fault.MakingFault.TheVariants as making
+use Rattle.b2_project_walk.specs.Faults.{lex_refusal, syntax_refusal, feature_refusal}
+use Rattle.b2_project_walk.specs.Walks.{Refusal as LoadRefusal, no_jamroot, no_jamfile, too_big, lex, syntax_at, eval, declaring}
+use Rattle.b2_project_walk.specs.declared.fault.LoadFault.{LoadFault}
+use Rattle.b2_project_walk.specs.declared.fault.LoadFault.TheVariants as loading
 use Rattle.b2_generate.specs.Planning.{Planned}
 use Rattle.b2_generate.specs.declared.fault.GenFault.{GenFault}
 use Rattle.b2_generate.specs.declared.fault.GenFault.TheVariants as generating
-use Rattle.b2_front.specs.Laws.{OneMeaning}
-use Rattle.b2_front.specs.Meaning.{Means}
-use Rattle.b2_front.specs.Refusals.{IsWholeLoad, IsWholeRequest, IsWholeChoice, IsWholeMaking, IsWholeGeneration, IsWholeRefusal}
-use Rattle.b2_front.specs.declared.refusal.Refusal.{Refusal}
-use Rattle.b2_front.specs.declared.refusal.Refusal.TheVariants as refusals
+use Rattle.b2_prepare.specs.Laws.{OneMeaning}
+use Rattle.b2_prepare.specs.Meaning.{Means}
+use Rattle.b2_prepare.specs.Refusals.{IsWholeLoad, IsWholeRequest, IsWholeChoice, IsWholeMaking, IsWholeGeneration, IsWholeRefusal}
+use Rattle.b2_prepare.specs.declared.refusal.PlanRefusal.{PlanRefusal}
+use Rattle.b2_prepare.specs.declared.refusal.PlanRefusal.TheVariants as refusals
 use Rattle.b2_refusals.specs.Wholes.{IsLoadRefusal, IsChoiceRefusal, IsMakingRefusal, IsGenRefusal, IsWhole}
-use Rattle.b2_words.specs.Words.{Word}
+use Rattle.b2_command_line.specs.Words.{Word}
 use Rattle.b2_top.specs.Causes.{HasNoPlan}
 use Rattle.b2_top.specs.Plans.{HasPlan}
 use Rattle.b2_top.specs.RefusalCauses.{fault_of, HasCause, IsOfPattern}
@@ -105,7 +105,7 @@ generation_whole (generating.NotChosen fault) h = choice_whole fault h
 generation_whole (generating.NotMade fault) h = making_whole fault h
 generation_whole generating.OutOfMemory h = h
 
-refusal_whole : (why : Refusal) → IsWhole (fault_of why) → IsWholeRefusal why
+refusal_whole : (why : PlanRefusal) → IsWhole (fault_of why) → IsWholeRefusal why
 refusal_whole (refusals.Load fault) h = load_whole fault h
 refusal_whole (refusals.Request fault) h = request_whole fault h
 refusal_whole (refusals.Generation fault) h = generation_whole fault h
@@ -114,7 +114,7 @@ refusal_whole (refusals.Generation fault) h = generation_whole fault h
 
 module _ (one_meaning : OneMeaning) (disk : Disk) (words echoes : List Word) (planned : Planned) (means : Means disk None words echoes (Ok planned)) (others : List Word) where
   -- what is refused before an update is of a pattern
-  pub of_pattern : (why : Refusal) → IsWhole (fault_of why) → HasCause disk words others (fault_of why) → IsOfPattern (fault_of why)
+  pub of_pattern : (why : PlanRefusal) → IsWhole (fault_of why) → HasCause disk words others (fault_of why) → IsOfPattern (fault_of why)
   of_pattern (refusals.Load fault) whole cause = (pattern_refused one_meaning disk words echoes others planned means (refusals.Load fault) (refusal_whole (refusals.Load fault) whole) cause).0
   of_pattern (refusals.Request fault) whole cause = (pattern_refused one_meaning disk words echoes others planned means (refusals.Request fault) (refusal_whole (refusals.Request fault) whole) cause).0
   of_pattern (refusals.Generation fault) whole cause = (pattern_refused one_meaning disk words echoes others planned means (refusals.Generation fault) (refusal_whole (refusals.Generation fault) whole) cause).0
@@ -123,7 +123,7 @@ one_command : (a b : BuildCommand) → Some a ≡ Some b → a ≡ b
 one_command a b e = cc
 
 -- what a call is refused for that has a plan
-pub refused_for_pattern : OneMeaning → (words : List Word) (disk : Disk) (plan : HasPlan words disk) (why : Refusal) → IsWhole (fault_of why) → (echoes : List Word) → HasNoPlan words disk echoes (fault_of why) → IsOfPattern (fault_of why)
+pub refused_for_pattern : OneMeaning → (words : List Word) (disk : Disk) (plan : HasPlan words disk) (why : PlanRefusal) → IsWhole (fault_of why) → (echoes : List Word) → HasNoPlan words disk echoes (fault_of why) → IsOfPattern (fault_of why)
 refused_for_pattern one_meaning words disk plan why whole echoes none =
     let same : plan.command ≡ none.command = one_command plan.command none.command (sym plan.asked ∙ none.asked) in
     of_pattern one_meaning disk plan.command.words plan.echoes plan.planned plan.means echoes why whole

@@ -4,29 +4,29 @@ use Rattle.std.specs.Prelude.{if◌then◌else◌}
 use Rattle.std.specs.List.{Contains}
 use Rattle.b2_base.specs.Segments.{here}
 use Rattle.b2_base.proofs.NormalMakesNormalForms.{is_normal_normal}
-use Rattle.b2_metatargets.specs.declared.fault.DeclaringFault.{DeclaringFault}
-use Rattle.b2_metatargets.specs.declared.place.TestCall.{TestCall}
-use Rattle.b2_metatargets.specs.declared.visit.Visit.{Visit}
-use Rattle.b2_metatargets.specs.declared.visit.Call.{Call}
-use Rattle.b2_metatargets.specs.declared.whole.Declared.{Declared}
-use Rattle.b2_metatargets.specs.Carrying.{tables_of}
-use Rattle.b2_metatargets.specs.Declaring.{declared}
+use Rattle.b2_declared.specs.declared.fault.DeclaringFault.{DeclaringFault}
+use Rattle.b2_declared.specs.declared.place.TestCall.{TestCall}
+use Rattle.b2_declared.specs.declared.visit.Visit.{Visit}
+use Rattle.b2_declared.specs.declared.visit.Call.{Call}
+use Rattle.b2_declared.specs.declared.whole.Declared.{Declared}
+use Rattle.b2_declared.specs.Carrying.{tables_of}
+use Rattle.b2_declared.specs.Declaring.{declared}
 use Rattle.jam_grammar.specs.Trees.{StmtTrees}
 use Rattle.jam_journal.specs.Tables.{Text}
 use Rattle.jam_journal.specs.Scopes.{enter}
 use Rattle.jam_scope.specs.Worlds.{World, Worlds}
 use Rattle.jam_scope.specs.Changes.{freeze_roots}
 use Rattle.jam_scope.specs.Texts.{first_roots}
-use Rattle.jam_eval.specs.Kept.{Ends}
-use Rattle.jam_eval.specs.Outcomes.{Outcome, gives, faults, close_frame}
-use Rattle.jam_eval.specs.Settings.{Reading, is_missing, is_too_big, has_no_tokens, has_no_tree, is_file, Setting}
-use Rattle.jam_eval.specs.States.{State, with_world, with_scopes}
-use Rattle.jam_eval.specs.Eval.{run}
-use Rattle.jam_eval.proofs.KeptByEval.{run_keeps}
+use Rattle.jam_meaning.specs.Kept.{Ends}
+use Rattle.jam_meaning.specs.Outcomes.{Outcome, gives, faults, close_frame}
+use Rattle.jam_meaning.specs.Settings.{Reading, is_missing, is_too_big, has_no_tokens, has_no_tree, is_file, Setting}
+use Rattle.jam_meaning.specs.States.{State, with_world, with_scopes}
+use Rattle.jam_meaning.specs.Eval.{run}
+use Rattle.jam_meaning.proofs.KeptByEval.{run_keeps}
 use Rattle.jam_natives.specs.Keeping.{Kept}
 use Rattle.jam_natives.specs.Rows.{jam_meaning}
-use Rattle.b2_walk.specs.Directories.{way_to, project_files, seen, first_file, is_visited, visit_of, module_above}
-use Rattle.b2_walk.specs.Walks.{Walk, no_walk, Refusal, no_jamroot, no_jamfile, Course, goes_on, refused, and_then, visited, prepared, after_run, after_reading, unless_visited, run_project, visit_file, visit_found, visit, visit_all, run_text, load_dir, load_root, ComesTo, is_refused, is_whole, leads_on}
+use Rattle.b2_project_walk.specs.Directories.{way_to, project_files, seen, first_file, is_visited, visit_of, module_above}
+use Rattle.b2_project_walk.specs.Walks.{Walk, no_walk, Refusal, no_jamroot, no_jamfile, Course, goes_on, refused, and_then, visited, prepared, after_run, after_reading, unless_visited, run_project, visit_file, visit_found, visit, visit_all, run_text, load_dir, load_root, ComesTo, is_refused, is_whole, leads_on}
 use Rattle.b2_project.specs.Loads.{Ending, loaded, fails, with_declared, then_declare, up_to_toolset, IsToolsetRun, IsEquipped, IsAfterWalk, Loads}
 use Rattle.b2_testing.specs.Readying.{text_setting, walk_in, IsEquippedFor}
 use Rattle.jam_source_laws.specs.Sources.{IsRoot, AreRoots, KeepsRoots, RootsStay}

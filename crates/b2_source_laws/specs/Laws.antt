@@ -2,15 +2,15 @@
 use Rattle.std.specs.Prelude.{◌≡◌, ℕ, List, Option, Ok}
 use Rattle.b2_host.specs.Disks.{Folder, Disk, IsConsistent}
 use Rattle.b2_plan.specs.Plans.{Apart}
-use Rattle.b2_metatargets.specs.declared.whole.Declared.{Declared}
+use Rattle.b2_declared.specs.declared.whole.Declared.{Declared}
 use Rattle.b2_generate.specs.Planning.{Planned}
-use Rattle.b2_front.specs.Meaning.{Means}
+use Rattle.b2_prepare.specs.Meaning.{Means}
 use Rattle.b2_source_laws.specs.NextPlans.{SourcesStay}
 use Rattle.jam_journal.specs.Tables.{Text}
-use Rattle.jam_eval.specs.Settings.{Reading, Setting}
+use Rattle.jam_meaning.specs.Settings.{Reading, Setting}
 use Rattle.jam_natives.specs.Keeping.{Kept}
 use Rattle.jam_natives.specs.Rows.{jam_meaning}
-use Rattle.b2_walk.specs.Walks.{Walk}
+use Rattle.b2_project_walk.specs.Walks.{Walk}
 use Rattle.b2_project.specs.Loads.{loaded, Loads}
 use Rattle.jam_source_laws.specs.Sources.{over, ShowSame}
 

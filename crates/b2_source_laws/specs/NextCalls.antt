@@ -13,7 +13,7 @@ use Rattle.b2_runs.specs.LogFiles.{log_limit, IsLogIn}
 use Rattle.b2_runs.specs.Moments.{Moment}
 use Rattle.b2_runs.specs.Runs.{Settled}
 use Rattle.b2_drain.specs.Drains.{Made}
-use Rattle.b2_words.specs.Words.{Word}
+use Rattle.b2_command_line.specs.Words.{Word}
 use Rattle.b2_top.specs.declared.answer.Answer.{Answer}
 use Rattle.b2_top.specs.Answered.{IsOfEnd, IsAnswered}
 use Rattle.b2_top.specs.Plans.{HasPlan, update_for, MeetsPremises}

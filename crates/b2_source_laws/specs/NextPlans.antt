@@ -14,7 +14,7 @@ use Rattle.b2_runs.specs.Soundness.{Distinguishes, UsesTrueLines}
 use Rattle.b2_runs.specs.Staleness.{Update}
 use Rattle.b2_runs.specs.UpdateAnswers.{UpdateAnswer}
 use Rattle.b2_drain.specs.Drains.{Made}
-use Rattle.b2_words.specs.Words.{Word}
+use Rattle.b2_command_line.specs.Words.{Word}
 use Rattle.b2_top.specs.declared.build_command.BuildCommand.{BuildCommand}
 use Rattle.b2_top.specs.Commands.{build_command}
 use Rattle.b2_top.specs.Plans.{HasPlan, update_for}

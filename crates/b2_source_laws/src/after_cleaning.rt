@@ -3,7 +3,7 @@ ghost use Rattle.b2_source_laws.specs.AfterCleaning.{NextAfterCleaning};
 
 use crate::laws::meaning_is_apart;
 use b2_explain::laws::cleaned_is_stale;
-use b2_front::laws::one_meaning;
+use b2_prepare::laws::one_meaning;
 
 /// After cleaning with status 0 the next call that asks for a build of the same free words, with no edit between them, has the cleaned
 /// plan again, and none of its steps is fresh. Each one that is needed starts, or it is told why not; with status 0 each wanted

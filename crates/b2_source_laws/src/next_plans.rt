@@ -1,7 +1,7 @@
 //! The plan of a call that comes after an update, with no edit between them.
 ghost use Rattle.b2_source_laws.specs.NextPlans.{UpdatesLeaveSources, HostUpdatesLeaveSources, StopsLeaveSources, PlanComesAgain, NextIsOfSamePlan};
 
-use b2_front::laws::one_meaning;
+use b2_prepare::laws::one_meaning;
 
 /// An update changes no source: the log and all outputs lie under output roots.
 pub fn updates_leave_sources()

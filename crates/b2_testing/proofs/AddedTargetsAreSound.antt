@@ -2,10 +2,10 @@
 use Rattle.std.proofs.Common.{◌≡◌, ℕ, ◌+◌, ◌-◌, ◌<◌, ◌≤◌, ◌⊎◌, inl, inr, List, [], ◌∷◌, ◌++◌, length, Option, Some, None, refl, arith, length-append}
 use Rattle.std.specs.List.{All, AllByRecursion, Contains, flat_map}
 use Rattle.std.proofs.lemmas.List.Elements.{All-nil, All-append, All-from_recursion, recursion_from_All}
-use Rattle.b2_declarations.specs.declared.declaration.Kind.{Kind}
-use Rattle.b2_metatargets.specs.declared.place.Target.{Target}
-use Rattle.b2_metatargets.specs.declared.place.TestCall.{TestCall}
-use Rattle.b2_metatargets.specs.Laws.{AreNumbered}
+use Rattle.b2_declaring_calls.specs.declared.declaration.Kind.{Kind}
+use Rattle.b2_declared.specs.declared.place.Target.{Target}
+use Rattle.b2_declared.specs.declared.place.TestCall.{TestCall}
+use Rattle.b2_declared.specs.Laws.{AreNumbered}
 use Rattle.b2_props.specs.Requirements.{AsksBelow}
 use Rattle.b2_runs.proofs.FirstElementOrLater.{Contains_cases}
 use Rattle.b2_sched.proofs.DependentsWakeOneByOne.{none_in_empty}

@@ -7,9 +7,9 @@ use Rattle.std.proofs.Math.Seq.{drop-cons, take-suc}
 use Rattle.std.proofs.lemmas.Bool.{eqb-true, eqb-false}
 use Rattle.std.proofs.lemmas.Grind.{flat_map-append}
 use Rattle.std.proofs.lemmas.List.{length-append, get_or-set_same, get_or-set_other, take_all, take-append-drop}
-use Rattle.b2_declarations.specs.declared.declaration.Kind.{Kind}
-use Rattle.b2_metatargets.specs.declared.place.TestCall.{TestCall}
-use Rattle.b2_metatargets.specs.declared.whole.Declared.{Declared}
+use Rattle.b2_declaring_calls.specs.declared.declaration.Kind.{Kind}
+use Rattle.b2_declared.specs.declared.place.TestCall.{TestCall}
+use Rattle.b2_declared.specs.declared.whole.Declared.{Declared}
 use Rattle.b2_testing.specs.Adding.{with_marker, added, with_tests, markers_from}
 use Rattle.b2_testing.specs.Asking.{is_marked, AreMarkers}
 

@@ -8,7 +8,7 @@ use Rattle.std.proofs.lemmas.List.Elements.{Contains-append_left}
 use Rattle.b2_plan.specs.declared.step.Step.{Step}
 use Rattle.b2_plan.specs.Plans.{step_at, maker_of}
 use Rattle.b2_runs.proofs.NumberHasOneStep.{one_step}
-use Rattle.b2_sched.specs.Calls.{MakesOneOf}
+use Rattle.b2_sched.specs.SchedulerCalls.{MakesOneOf}
 use Rattle.b2_sched.specs.Cycles.{NeedsIn}
 use Rattle.b2_sched.proofs.WantedFilesAddTheirMakers.{maker_within, makes_more, makes_last, made_or_last}
 use Rattle.b2_sched.proofs.DependentsWakeOneByOne.{none_in_empty}

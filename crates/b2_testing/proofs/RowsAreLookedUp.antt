@@ -16,13 +16,13 @@ use Rattle.b2_props.specs.Sets.{IsSet}
 use Rattle.b2_props.specs.Elements.{dir_text}
 use Rattle.b2_props.proofs.RepeatedPairsAddNothing.{text_is, text_itself}
 use Rattle.b2_virtual.specs.Paths.{named_tail}
-use Rattle.b2_conversions.specs.Steps.{location_of}
-use Rattle.b2_metatargets.specs.declared.whole.Declared.{Declared}
+use Rattle.b2_making.specs.Steps.{location_of}
+use Rattle.b2_declared.specs.declared.whole.Declared.{Declared}
 use Rattle.b2_references.specs.Names.{Name, features, numbers, dir_of, target_text}
 use Rattle.b2_generate.specs.Answers.{Row, HaveSets}
-use Rattle.b2_planning.specs.TableRows.{row_of_line, rows_of}
-use Rattle.b2_planning.specs.declared.planned.Built.{Built}
-use Rattle.b2_planning.specs.declared.planned.Planned.{Planned}
+use Rattle.b2_request_plan.specs.TableRows.{row_of_line, rows_of}
+use Rattle.b2_request_plan.specs.declared.planned.Built.{Built}
+use Rattle.b2_request_plan.specs.declared.planned.Planned.{Planned}
 use Rattle.b2_testing.specs.Adding.{with_tests, markers, markers_from}
 use Rattle.b2_testing.specs.Asking.{is_marked, AreMarkers, has_mark, test_by, tests_by}
 use Rattle.b2_testing.specs.Requested.{path_in, marker_path, is_at, is_marker, test_at, test_of_row, requested, AreAskedFor}

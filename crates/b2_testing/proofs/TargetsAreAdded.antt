@@ -4,8 +4,8 @@ use Rattle.std.proofs.lemmas.Bool.{true≢false}
 use Rattle.std.specs.List.{flat_map}
 use Rattle.std.proofs.lemmas.List.{append-nil}
 use Rattle.jam_scope.specs.Worlds.{Worlds}
-use Rattle.b2_metatargets.specs.declared.place.Target.{Target}
-use Rattle.b2_metatargets.specs.declared.place.TestCall.{TestCall}
+use Rattle.b2_declared.specs.declared.place.Target.{Target}
+use Rattle.b2_declared.specs.declared.place.TestCall.{TestCall}
 use Rattle.b2_project.specs.declared.project.Project.{Project}
 use Rattle.b2_testing.specs.Adding.{added, with_tests}
 use Rattle.b2_testing_text.specs.Definitions.{definitions, equipped, IsPart}

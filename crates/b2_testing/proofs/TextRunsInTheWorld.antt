@@ -1,9 +1,9 @@
 -- The build text of tests has one course in any worlds, in which it leaves its definitions.
 use Rattle.std.proofs.Common.{◌≡◌, List, codes, Result, Ok, Err, OnOk, OnErr, is_some, refl, sym, ap, ◌∙◌}
 use Rattle.jam_scope.specs.Worlds.{Worlds}
-use Rattle.jam_eval.specs.Laws.{bounds}
-use Rattle.jam_eval.specs.Settings.{is_file}
-use Rattle.b2_walk.specs.Walks.{goes_on, no_walk, state_in, after_run, run_text}
+use Rattle.jam_meaning.specs.Laws.{bounds}
+use Rattle.jam_meaning.specs.Settings.{is_file}
+use Rattle.b2_project_walk.specs.Walks.{goes_on, no_walk, state_in, after_run, run_text}
 use Rattle.b2_testing_text.specs.Definitions.{equipped, KeepsRest}
 use Rattle.b2_testing_text.specs.Trees.{testing_tree}
 use Rattle.b2_testing_text.proofs.TextReadsInOneWay.{text_reads}

@@ -2,12 +2,12 @@
 use Rattle.std.specs.Prelude.{ℕ, ◌+◌, ◌-◌, List, [], ◌∷◌, ◌++◌, codes, length, Option, Some, None, if◌then◌else◌}
 use Rattle.std.specs.List.{flat_map}
 use Rattle.std.specs.Str.{bytes_eq}
-use Rattle.b2_declarations.specs.Tests.{marker_name}
-use Rattle.b2_declarations.specs.declared.declaration.Kind.{Kind}
-use Rattle.b2_declarations.specs.declared.declaration.Kind.TheVariants.{Exe, Obj, Make}
-use Rattle.b2_metatargets.specs.declared.place.Target.{Target}
-use Rattle.b2_metatargets.specs.declared.place.TestCall.{TestCall}
-use Rattle.b2_metatargets.specs.declared.whole.Declared.{Declared}
+use Rattle.b2_declaring_calls.specs.Tests.{marker_name}
+use Rattle.b2_declaring_calls.specs.declared.declaration.Kind.{Kind}
+use Rattle.b2_declaring_calls.specs.declared.declaration.Kind.TheVariants.{Exe, Obj, Make}
+use Rattle.b2_declared.specs.declared.place.Target.{Target}
+use Rattle.b2_declared.specs.declared.place.TestCall.{TestCall}
+use Rattle.b2_declared.specs.declared.whole.Declared.{Declared}
 
 -- a main target of a test: requirements and the line are those of its call
 abbrev pub of_test : TestCall → List ℕ → Kind → List (List ℕ) → List ℕ → Target

@@ -9,8 +9,8 @@ use Rattle.b2_plan.specs.Cleans.{Clean}
 use Rattle.b2_runs.specs.Staleness.{Update}
 use Rattle.b2_runs.specs.Runs.{Needed}
 use Rattle.b2_runs.specs.UpdateAnswers.{UpdateAnswer, AnswerTold}
-use Rattle.b2_metatargets.specs.declared.whole.Declared.{Declared}
-use Rattle.b2_metatargets.specs.Laws.{IsSound}
+use Rattle.b2_declared.specs.declared.whole.Declared.{Declared}
+use Rattle.b2_declared.specs.Laws.{IsSound}
 use Rattle.b2_testing.specs.Adding.{with_tests, markers}
 use Rattle.b2_generate.specs.Answers.{Row}
 use Rattle.b2_testing.specs.Requested.{requested, IsAskedBy}

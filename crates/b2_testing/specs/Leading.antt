@@ -4,7 +4,7 @@ use Rattle.std.specs.List.{Contains}
 use Rattle.b2_plan.specs.declared.step.Step.{Step}
 use Rattle.b2_plan.specs.Plans.{step_at}
 use Rattle.b2_endings.specs.declared.failed_lists.FailedLists.{FailedLists}
-use Rattle.b2_sched.specs.Calls.{MakesOneOf}
+use Rattle.b2_sched.specs.SchedulerCalls.{MakesOneOf}
 use Rattle.b2_sched.specs.Cycles.{NeedsIn}
 use Rattle.b2_sched.specs.NumberSets.{Has}
 use Rattle.b2_testing.specs.declared.pass_list.Marks.{Marks}

@@ -3,15 +3,15 @@ use Rattle.std.specs.Prelude.{◌≡◌, ◌≢◌, ℕ, List, [], ◌∷◌, �
 use Rattle.std.specs.List.{flat_map}
 use Rattle.std.specs.Str.{chars}
 use Rattle.jam_scope.specs.Worlds.{Worlds}
-use Rattle.jam_eval.specs.Laws.{bounds}
-use Rattle.jam_eval.specs.Settings.{Sight, Setting, is_missing}
+use Rattle.jam_meaning.specs.Laws.{bounds}
+use Rattle.jam_meaning.specs.Settings.{Sight, Setting, is_missing}
 use Rattle.jam_natives.specs.Keeping.{Kept}
 use Rattle.jam_natives.specs.Rows.{jam_meaning}
-use Rattle.b2_sights.proofs.EveryMatchIsDecided.{match_told}
-use Rattle.b2_metatargets.specs.declared.place.TestCall.{TestCall}
-use Rattle.b2_metatargets.specs.declared.place.Target.{Target}
-use Rattle.b2_metatargets.specs.declared.whole.Declared.{Declared}
-use Rattle.b2_walk.specs.Walks.{Walk, Course, goes_on, no_walk, RunsText}
+use Rattle.b2_sight_laws.proofs.EveryMatchIsDecided.{match_told}
+use Rattle.b2_declared.specs.declared.place.TestCall.{TestCall}
+use Rattle.b2_declared.specs.declared.place.Target.{Target}
+use Rattle.b2_declared.specs.declared.whole.Declared.{Declared}
+use Rattle.b2_project_walk.specs.Walks.{Walk, Course, goes_on, no_walk, RunsText}
 use Rattle.b2_project.specs.declared.project.Project.{Project}
 use Rattle.b2_testing_text.specs.Definitions.{definitions, equipped, IsPart}
 use Rattle.b2_testing_text.specs.Texts.{testing_text}

@@ -7,12 +7,12 @@ use Rattle.b2_plan.specs.declared.step.Step.{Step}
 use Rattle.b2_plan.specs.Plans.{maker_of}
 use Rattle.b2_props.specs.Elements.{dir_text}
 use Rattle.b2_virtual.specs.Paths.{named_tail, output_path, located}
-use Rattle.b2_conversions.specs.Steps.{location_of}
-use Rattle.b2_metatargets.specs.declared.whole.Declared.{Declared}
+use Rattle.b2_making.specs.Steps.{location_of}
+use Rattle.b2_declared.specs.declared.whole.Declared.{Declared}
 use Rattle.b2_references.specs.Names.{features, numbers, dir_of, target_text}
 use Rattle.b2_generate.specs.Answers.{Row}
-use Rattle.b2_planning.specs.declared.planned.Planned.{Planned}
-use Rattle.b2_planning.specs.TableRows.{rows_of}
+use Rattle.b2_request_plan.specs.declared.planned.Planned.{Planned}
+use Rattle.b2_request_plan.specs.TableRows.{rows_of}
 use Rattle.b2_testing.specs.Adding.{with_tests, markers}
 
 -- where a marker lies: at the location of its set, if there is one, else in `bin`

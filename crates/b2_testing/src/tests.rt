@@ -6,7 +6,7 @@ ghost use Rattle.b2_testing.specs.Readying.{LeavesReady, LeavesPart, HasOneCours
 
 use crate::adding::added;
 use b2_base::fault::OutOfMemory;
-use b2_metatargets::place::Target;
+use b2_declared::place::Target;
 use b2_project::project::Project;
 use b2_testing_text::defining::make_definitions;
 use std::alloc::Global;

@@ -15,7 +15,7 @@ use Rattle.jam_lexer.specs.Word.{is_key_text}
 use Rattle.jam_lexer.specs.Tokens.{Next, NextWord, NextBody, NextBrace, next_after, place_after, awaits_brace, is_key, is_body, IsNextToken, Stand, IsEnd}
 use Rattle.jam_lexer.proofs.LinesGrowByLineFeeds.{lines_more}
 use Rattle.jam_spelling.specs.Spelling.{is_special}
-use Rattle.jam_spelling.specs.Standing.{count, IsRaw}
+use Rattle.jam_spelling.specs.LexemeLists.{count, IsRaw}
 use Rattle.jam_spelling.proofs.PlainTextsNeedNoQuotes.{IsWordOf, bare_word, some_of}
 use Rattle.jam_spelling.proofs.SpelledPiecesAreTokens.{IsAt, at_length, at_byte, at_more, at_slice, IsWhite, white_gap, EndsWord, the_token, word_token, body_token}
 

@@ -8,7 +8,7 @@ use Rattle.jam_lexer.proofs.OneAnswer.{one_tokens, one_answer}
 use Rattle.jam_grammar.specs.Readings.{ReadsTree, IsFirstFault}
 use Rattle.jam_grammar.proofs.MachineStopsAtFirstFault.{never_both}
 use Rattle.jam_grammar.proofs.UpToLines.{one_tree}
-use Rattle.jam_eval.specs.Settings.{Reading, is_missing, is_too_big, has_no_tokens, has_no_tree, is_file, file_limit}
+use Rattle.jam_meaning.specs.Settings.{Reading, is_missing, is_too_big, has_no_tokens, has_no_tree, is_file, file_limit}
 use Rattle.jam_grammar.specs.declared.tree.Tree.{Tree}
 use Rattle.jam_grammar.specs.Trees.{whole_tree}
 use Rattle.jam_values.specs.declared.files.FileReading.{FileReading}

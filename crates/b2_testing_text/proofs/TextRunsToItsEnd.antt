@@ -10,15 +10,15 @@ use Rattle.jam_journal.specs.Tables.{Text}
 use Rattle.jam_journal.specs.Scopes.{look, enter}
 use Rattle.jam_scope.specs.Worlds.{Worlds}
 use Rattle.jam_scope.specs.Changes.{rescoped, module_in}
-use Rattle.jam_eval.specs.Args.{args, args_after}
-use Rattle.jam_eval.specs.Eval.{levels, run}
-use Rattle.jam_eval.specs.Faults.{Spot}
-use Rattle.jam_eval.specs.Forms.{stmts}
-use Rattle.jam_eval.specs.Includes.{file_ended}
-use Rattle.jam_eval.specs.Levels.{Levels}
-use Rattle.jam_eval.specs.Outcomes.{gives, goes_on, then_do, then_go, expanded, close_frame, in_module}
-use Rattle.jam_eval.specs.Settings.{Setting}
-use Rattle.jam_eval.specs.States.{State}
+use Rattle.jam_meaning.specs.Args.{args, args_after}
+use Rattle.jam_meaning.specs.Eval.{levels, run}
+use Rattle.jam_meaning.specs.Faults.{Spot}
+use Rattle.jam_meaning.specs.Forms.{stmts}
+use Rattle.jam_meaning.specs.Includes.{file_ended}
+use Rattle.jam_meaning.specs.Levels.{Levels}
+use Rattle.jam_meaning.specs.Outcomes.{gives, goes_on, then_do, then_go, expanded, close_frame, in_module}
+use Rattle.jam_meaning.specs.Settings.{Setting}
+use Rattle.jam_meaning.specs.States.{State}
 use Rattle.jam_natives.specs.Keeping.{Kept}
 use Rattle.b2_base.specs.Lists.{first_of}
 use Rattle.b2_testing_text.specs.Trees.{one, testing_tree, command_rule, compile_fail_rule, actions}

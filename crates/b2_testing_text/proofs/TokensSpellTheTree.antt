@@ -4,7 +4,7 @@ use Rattle.std.specs.Str.{bytes_eq}
 use Rattle.std.proofs.lemmas.Bool.{and_parts, eqb-true}
 use Rattle.std.proofs.lemmas.Slice.Eq.{bytes_eq-Decides}
 use Rattle.b2_base.specs.declared.token.Token.{Token}
-use Rattle.jam_grammar.specs.declared.mark.Mark.TheVariants as m
+use Rattle.jam_grammar.specs.declared.mark.TokenMark.TheVariants as m
 use Rattle.jam_grammar.specs.Marks.{mark_of_token, is_word, is_name, same_mark}
 use Rattle.jam_grammar.specs.Spelling.{Sym, Key, Heads, Says, Named, Raw, From, Never, StartsOn, none, Spells}
 use Rattle.jam_grammar.proofs.EveryMarkIsTested.{same_mark_true}

@@ -1,9 +1,9 @@
 -- What is so of the build text of tests.
 use Rattle.std.specs.Prelude.{◌≡◌, ◌↔◌, ℕ, ◌+◌, List, length, codes}
 use Rattle.b2_base.specs.declared.token.Token.{Token}
-use Rattle.jam_eval.specs.Eval.{run}
-use Rattle.jam_eval.specs.Outcomes.{gives}
-use Rattle.jam_eval.specs.Settings.{Reading, is_file, Setting}
+use Rattle.jam_meaning.specs.Eval.{run}
+use Rattle.jam_meaning.specs.Outcomes.{gives}
+use Rattle.jam_meaning.specs.Settings.{Reading, is_file, Setting}
 use Rattle.jam_grammar.specs.Readings.{ReadsTree}
 use Rattle.jam_lexer.specs.Tokens.{AreTokens}
 use Rattle.jam_natives.specs.Keeping.{Kept}

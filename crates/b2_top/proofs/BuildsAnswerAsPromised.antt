@@ -8,17 +8,17 @@ use Rattle.b2_top.specs.Writing.{Writes, unwritten, AnswersStop}
 use Rattle.b2_top.specs.declared.answer.Answer.{Answer}
 use Rattle.b2_top.specs.declared.answer.Answer.TheVariants as answers
 use Rattle.b2_top.specs.declared.build_command.BuildCommand.{BuildCommand}
-use Rattle.b2_top.specs.Told.{StaysStill}
-use Rattle.b2_front.specs.Laws.{OneMeaning}
-use Rattle.b2_front.specs.Meaning.{AsksTests, Means}
-use Rattle.b2_front.specs.Preparing.{IsPrepared, LinesTold, IsWhole as IsWholeStop, CountsStop}
-use Rattle.b2_front.proofs.LinesBeginTheLoad.{loaded_begins}
-use Rattle.b2_front.specs.declared.refusal.Refusal.{Refusal}
-use Rattle.b2_front.specs.declared.refusal.Refusal.TheVariants as refusals
-use Rattle.b2_front.specs.declared.refusal.Stop.{Stop}
-use Rattle.b2_front.specs.declared.refusal.Stop.TheVariants as stops
-use Rattle.b2_planning.specs.Plans.{seen}
-use Rattle.b2_planning.specs.declared.planned.Planned.{Planned}
+use Rattle.b2_top.specs.BetweenMoments.{StaysStill}
+use Rattle.b2_prepare.specs.Laws.{OneMeaning}
+use Rattle.b2_prepare.specs.Meaning.{AsksTests, Means}
+use Rattle.b2_prepare.specs.Preparing.{IsPrepared, LinesTold, IsWhole as IsWholeStop, CountsStop}
+use Rattle.b2_prepare.proofs.LinesBeginTheLoad.{loaded_begins}
+use Rattle.b2_prepare.specs.declared.refusal.PlanRefusal.{PlanRefusal}
+use Rattle.b2_prepare.specs.declared.refusal.PlanRefusal.TheVariants as refusals
+use Rattle.b2_prepare.specs.declared.refusal.PlanStop.{PlanStop}
+use Rattle.b2_prepare.specs.declared.refusal.PlanStop.TheVariants as stops
+use Rattle.b2_request_plan.specs.Plans.{seen}
+use Rattle.b2_request_plan.specs.declared.planned.Planned.{Planned}
 use Rattle.b2_host.specs.Disks.{Disk}
 use Rattle.b2_host.specs.Outside.{Outside}
 use Rattle.b2_host.specs.OutsideLaws.{Keeps}
@@ -28,7 +28,7 @@ use Rattle.b2_host.specs.declared.fault.IoFault.TheVariants as io
 use Rattle.b2_plan.specs.Plans.{Apart}
 use Rattle.b2_drain.specs.Drains.{Made}
 use Rattle.b2_update.specs.Moments.{moment}
-use Rattle.b2_words.specs.Words.{Word}
+use Rattle.b2_command_line.specs.Words.{Word}
 use Rattle.b2_top.specs.Commands.{build_command}
 use Rattle.b2_top.specs.Plans.{HasPlan, options_of}
 use Rattle.b2_top.specs.Causes.{HasNoPlan}
@@ -47,7 +47,7 @@ module _ (law : OneMeaning) (made : Made) (words : List Word) (command : BuildCo
   still : StaysStill h0 h1
   still = record { disk = disk_same; children = children_same }
 
-  abbrev Prepared : Result Planned Stop → Type 0
+  abbrev Prepared : Result Planned PlanStop → Type 0
   Prepared result = IfSome h0.disk (λ disk. IsPrepared disk command.words echoes result)
 
   abbrev Stopped : Output → Answer → Type 0
@@ -62,12 +62,12 @@ module _ (law : OneMeaning) (made : Made) (words : List Word) (command : BuildCo
   plan_means : (disk : Disk) (plan : HasPlan words disk) → Means disk None command.words plan.echoes (Ok plan.planned)
   plan_means disk plan = subst (λ (c : BuildCommand). Means disk None c.words plan.echoes (Ok plan.planned)) (same_command disk plan) plan.means
 
-  cause_of : (why : Refusal) (disk : Disk) → IsPrepared disk command.words echoes (Err (stops.Refused why)) → HasNoPlan words disk echoes (fault_of why)
+  cause_of : (why : PlanRefusal) (disk : Disk) → IsPrepared disk command.words echoes (Err (stops.Refused why)) → HasNoPlan words disk echoes (fault_of why)
   cause_of (refusals.Load fault) disk h = record { command = command; asked = asked; cause = h }
   cause_of (refusals.Request fault) disk h = record { command = command; asked = asked; cause = h }
   cause_of (refusals.Generation fault) disk h = record { command = command; asked = asked; cause = h }
 
-  pub stopped : (o1 : Output) (stop : Stop) (result : Answer) → Prepared (Err stop) → IfSome h0.disk (λ disk. LinesTold disk command.words echoes (Err stop)) → IsWholeStop stop → CountsStop stop h0 h1 → AnswersStop echoes stop o0 o1 result → Stopped o1 result
+  pub stopped : (o1 : Output) (stop : PlanStop) (result : Answer) → Prepared (Err stop) → IfSome h0.disk (λ disk. LinesTold disk command.words echoes (Err stop)) → IsWholeStop stop → CountsStop stop h0 h1 → AnswersStop echoes stop o0 o1 result → Stopped o1 result
   stopped o1 (stops.Refused why) result told lines whole counts says =
       still_refused made words h0 h1 o0 o1 idle still (λ none. not_none none) why echoes result (whole_of why whole) (λ none. not_none none) counts
       (if_map h0.disk (cause_of why) told)
@@ -75,7 +75,7 @@ module _ (law : OneMeaning) (made : Made) (words : List Word) (command : BuildCo
       (pattern_refused law disk command.words plan.echoes echoes plan.planned (plan_means disk plan) why whole h)) told) says
   stopped o1 stops.HostInLoad result told lines whole counts says =
       still_fault made words h0 h1 o0 o1 idle still (λ none. not_none none) command asked echoes lines counts result says
-  stopped o1 stops.Host result told lines whole counts says =
+  stopped o1 stops.HostInGeneration result told lines whole counts says =
       still_fault made words h0 h1 o0 o1 idle still (λ none. not_none none) command asked echoes
       (if_map h0.disk (λ disk has. loaded_begins disk command.words echoes has) lines) counts result says
   stopped o1 stops.OutOfMemory result told lines whole counts says =

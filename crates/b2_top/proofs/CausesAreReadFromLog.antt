@@ -11,8 +11,8 @@ use Rattle.b2_plan.specs.declared.plan.Plan.{Plan}
 use Rattle.b2_runs.specs.LogFiles.{IsLogHeld, is_read, is_large}
 use Rattle.b2_runs.specs.LogCourses.{log_file}
 use Rattle.b2_journal.specs.Readings.{IsLogRead, ReadsLog, Stands}
-use Rattle.b2_journal.specs.declared.reading.LogState.{LogState}
-use Rattle.b2_journal.specs.declared.reading.LogState.TheVariants as states
+use Rattle.b2_journal.specs.declared.log_reading.LogState.{LogState}
+use Rattle.b2_journal.specs.declared.log_reading.LogState.TheVariants as states
 use Rattle.b2_explain.specs.declared.cause.Why.{Why}
 use Rattle.b2_explain.specs.declared.fault.ExplainFault.{ExplainFault}
 use Rattle.b2_explain.specs.declared.fault.ExplainFault.TheVariants as explaining

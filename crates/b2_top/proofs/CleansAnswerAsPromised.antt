@@ -14,16 +14,16 @@ use Rattle.b2_host.specs.OutsideLaws.{Keeps, keeps_same, keeps_then}
 use Rattle.b2_host.specs.Output.{Output, with_written}
 use Rattle.b2_host.specs.OutputLaws.{OutKeeps, out_keeps_same, out_keeps_then}
 use Rattle.b2_plan.specs.declared.step.Step.{Step}
-use Rattle.b2_words.specs.Words.{Word}
-use Rattle.b2_planning.specs.declared.planned.Planned.{Planned as Made}
-use Rattle.b2_planning.specs.Plans.{seen}
-use Rattle.b2_front.specs.Laws.{OneMeaning}
-use Rattle.b2_front.specs.Meaning.{Means}
-use Rattle.b2_front.specs.Preparing.{IsPrepared, IsWhole as IsWholeStop, CountsStop}
-use Rattle.b2_front.specs.Refusals.{IsWholeRefusal}
-use Rattle.b2_front.specs.declared.refusal.Refusal.{Refusal}
-use Rattle.b2_front.specs.declared.refusal.Stop.{Stop}
-use Rattle.b2_front.specs.declared.refusal.Stop.TheVariants as stops
+use Rattle.b2_command_line.specs.Words.{Word}
+use Rattle.b2_request_plan.specs.declared.planned.Planned.{Planned as Made}
+use Rattle.b2_request_plan.specs.Plans.{seen}
+use Rattle.b2_prepare.specs.Laws.{OneMeaning}
+use Rattle.b2_prepare.specs.Meaning.{Means}
+use Rattle.b2_prepare.specs.Preparing.{IsPrepared, IsWhole as IsWholeStop, CountsStop}
+use Rattle.b2_prepare.specs.Refusals.{IsWholeRefusal}
+use Rattle.b2_prepare.specs.declared.refusal.PlanRefusal.{PlanRefusal}
+use Rattle.b2_prepare.specs.declared.refusal.PlanStop.{PlanStop}
+use Rattle.b2_prepare.specs.declared.refusal.PlanStop.TheVariants as stops
 use Rattle.b2_runs.specs.Moments.{Moment}
 use Rattle.b2_runs.specs.Reports.{host_fault_line}
 use Rattle.b2_runs.specs.UpdateAnswers.{SinkFailed}
@@ -39,7 +39,7 @@ use Rattle.b2_top.specs.declared.answer.Answer.TheVariants as answers
 use Rattle.b2_top.specs.Asked.{clean_words}
 use Rattle.b2_top.specs.RefusalCauses.{fault_of, IsPatternRefused}
 use Rattle.b2_top.specs.Reports.{echo_lines, refusal_report, fault_report}
-use Rattle.b2_top.specs.Told.{HostFailedFirst, WrittenTold, Wrote}
+use Rattle.b2_top.specs.BetweenMoments.{HostFailedBeforeReport, WrittenTold, Wrote}
 use Rattle.b2_top.specs.Writing.{FailsIn, Writes, unwritten, Says, SaysFault, AnswersStop}
 use Rattle.b2_top.specs.Writing.Says.{said, failed, stopped}
 use Rattle.b2_top.specs.Writing.SaysFault.{fault_said, fault_failed, fault_stopped}
@@ -137,7 +137,7 @@ module _ (words : List Word) (before after : Moment) (leaves : LeavesTold words 
   }
 
   -- the host failed
-  ended_host : (free : List Word) → clean_words words ≡ Some free → HostFailedFirst before after → ReportTold words before after answers.HostFault → IsAnswered words before after answers.HostFault
+  ended_host : (free : List Word) → clean_words words ≡ Some free → HostFailedBeforeReport before after → ReportTold words before after answers.HostFault → IsAnswered words before after answers.HostFault
   ended_host free asked first reported = record {
     cleaned = λ e. absurd cc;
     leaves = leaves;
@@ -210,7 +210,7 @@ module _ (law : OneMeaning) (words free : List Word) (asked : clean_words words 
   echoed_lines = echo_lines echoes
 
   -- what the files and the words came to
-  abbrev IsLoaded : Result Made Stop → Disk → Type 0
+  abbrev IsLoaded : Result Made PlanStop → Disk → Type 0
   IsLoaded result disk = IsPrepared disk free echoes result
 
   -- ---- there is no plan
@@ -222,7 +222,7 @@ module _ (law : OneMeaning) (words free : List Word) (asked : clean_words words 
     still : LeavesTold words h0 h1
     still = leaves_still words h0 h1 disk_same
 
-    module _ (why : Refusal) (told : IfSome h0.disk (IsLoaded (Err (stops.Refused why)))) (input : IsWholeRefusal why) (same : h1.faults ≡ h0.faults) where
+    module _ (why : PlanRefusal) (told : IfSome h0.disk (IsLoaded (Err (stops.Refused why)))) (input : IsWholeRefusal why) (same : h1.faults ≡ h0.faults) where
       abbrev whole_refusal : List ℕ
       whole_refusal = refusal_report echoes [] (fault_of why)
 
@@ -283,10 +283,10 @@ module _ (law : OneMeaning) (words free : List Word) (asked : clean_words words 
           (written_told start stop s.part (ReportedBy words start stop answers.OutOfMemory) (text_of s.part o0 o1 s.same) (if_all h0.disk (λ disk. begins_fault echoed_lines rose (echoed_only disk) s.begins))))
 
     -- why there is none was told
-    pub answered_stop : (why : Stop) (result : Answer) → IfSome h0.disk (IsLoaded (Err why)) → IsWholeStop why → CountsStop why h0 h1 → AnswersStop echoes why o0 o1 result → IsAnswered words start stop result
+    pub answered_stop : (why : PlanStop) (result : Answer) → IfSome h0.disk (IsLoaded (Err why)) → IsWholeStop why → CountsStop why h0 h1 → AnswersStop echoes why o0 o1 result → IsAnswered words start stop result
     answered_stop (stops.Refused why) result told whole counts says = answered_refusal why told whole counts result says
     answered_stop stops.HostInLoad result told whole counts says = answered_fault counts result says
-    answered_stop stops.Host result told whole counts says = answered_fault counts result says
+    answered_stop stops.HostInGeneration result told whole counts says = answered_fault counts result says
     answered_stop stops.OutOfMemory result told whole counts says = subst (IsAnswered words start stop) (sym says.0) (ended_short words h0 h1 o0 o1 disk_same children keeps says.1 (λ none. not_none none))
 
   -- ---- there is one
@@ -460,7 +460,7 @@ module _ (law : OneMeaning) (words free : List Word) (asked : clean_words words 
         host_rose : Rose h0.faults h2.faults
         host_rose = subst (λ n. Rose n h2.faults) same counts.1
 
-        first_fault : (o2 ≡ with_written (fault_report []) between) ⊎ FailsIn (fault_report []) between o2 → HostFailedFirst start (end o2)
+        first_fault : (o2 ≡ with_written (fault_report []) between) ⊎ FailsIn (fault_report []) between o2 → HostFailedBeforeReport start (end o2)
         first_fault how = record { host = host_rose; out = between; sink = sink_same counts.2; echoes = []; told = how }
 
         -- whole lines were written
@@ -472,7 +472,7 @@ module _ (law : OneMeaning) (words free : List Word) (asked : clean_words words 
 
         failed_so : (last : List ℕ) → o2.written ≡ option_map (λ so_far. so_far ++ last) between.written
             → ((text : List ℕ) → ((echoed_lines ++ text ++ last ≡ echoed_lines ++ text ++ host_fault_line) × (o2.faults ≡ o0.faults)) ⊎ (SinkFailed o0 o2 × IsFrontOf (echoed_lines ++ text ++ last) (echoed_lines ++ text ++ host_fault_line)))
-            → HostFailedFirst start (end o2) → OutKeeps between o2 → IsAnswered words start (end o2) answers.HostFault
+            → HostFailedBeforeReport start (end o2) → OutKeeps between o2 → IsAnswered words start (end o2) answers.HostFault
         failed_so last text ended first out_keeps =
             ended_host words start (end o2) (both_leave (Err cleaning.Host) left) same_kin whole_keeps (out_keeps_then o0 between o2 out_so_far out_keeps) (λ none. not_none none) free asked first
             (reported (Err cleaning.Host) o2 last (IsLoaded (Ok made)) (ReportedBy words start (end o2) answers.HostFault) written text told

@@ -9,18 +9,18 @@ use Rattle.b2_host.specs.OutsideLaws.{Keeps, keeps_same, keeps_then}
 use Rattle.b2_host.specs.Output.{Output, with_written}
 use Rattle.b2_host.specs.OutputLaws.{OutKeeps}
 use Rattle.b2_runs.specs.UpdateAnswers.{SinkFailed}
-use Rattle.b2_words.specs.Words.{Word}
+use Rattle.b2_command_line.specs.Words.{Word}
 use Rattle.b2_generate.specs.Planning.{Planned}
-use Rattle.b2_planning.specs.declared.planned.Planned.{Planned as Made}
-use Rattle.b2_planning.specs.Plans.{seen}
-use Rattle.b2_front.specs.Laws.{OneMeaning}
-use Rattle.b2_front.specs.Meaning.{Means}
-use Rattle.b2_front.specs.Preparing.{IsPrepared, IsWhole as IsWholeStop, CountsStop}
-use Rattle.b2_front.specs.Refusals.{IsWholeRefusal}
-use Rattle.b2_front.specs.declared.refusal.Refusal.{Refusal}
-use Rattle.b2_front.specs.declared.refusal.Refusal.TheVariants as refusals
-use Rattle.b2_front.specs.declared.refusal.Stop.{Stop}
-use Rattle.b2_front.specs.declared.refusal.Stop.TheVariants as stops
+use Rattle.b2_request_plan.specs.declared.planned.Planned.{Planned as Made}
+use Rattle.b2_request_plan.specs.Plans.{seen}
+use Rattle.b2_prepare.specs.Laws.{OneMeaning}
+use Rattle.b2_prepare.specs.Meaning.{Means}
+use Rattle.b2_prepare.specs.Preparing.{IsPrepared, IsWhole as IsWholeStop, CountsStop}
+use Rattle.b2_prepare.specs.Refusals.{IsWholeRefusal}
+use Rattle.b2_prepare.specs.declared.refusal.PlanRefusal.{PlanRefusal}
+use Rattle.b2_prepare.specs.declared.refusal.PlanRefusal.TheVariants as refusals
+use Rattle.b2_prepare.specs.declared.refusal.PlanStop.{PlanStop}
+use Rattle.b2_prepare.specs.declared.refusal.PlanStop.TheVariants as stops
 use Rattle.b2_explain.specs.declared.cause.Why.{Why}
 use Rattle.b2_explain.specs.declared.fault.ExplainFault.{ExplainFault}
 use Rattle.b2_explain.specs.declared.fault.ExplainFault.TheVariants as explaining
@@ -40,7 +40,7 @@ use Rattle.b2_top.specs.FreePlans.BeginsFreeReport.{usage as begins_usage, whole
 use Rattle.b2_top.specs.FreePlans.BeginsSomeFree.{nothing as has_nothing, report as has_report, host_fault as has_fault}
 use Rattle.b2_top.specs.RefusalCauses.{fault_of, IsPatternRefused}
 use Rattle.b2_top.specs.Reports.{echo_lines, refusal_report, fault_report}
-use Rattle.b2_top.specs.Told.{HostFailedFirst}
+use Rattle.b2_top.specs.BetweenMoments.{HostFailedBeforeReport}
 use Rattle.b2_top.specs.Writing.{FailsIn, StopsIn, Says, SaysFault, AnswersStop}
 use Rattle.b2_top.specs.Writing.Says.{said, failed, stopped}
 use Rattle.b2_top.specs.Writing.SaysFault.{fault_said, fault_failed, fault_stopped}
@@ -132,7 +132,7 @@ module _ (words : List Word) (h0 h1 : Outside) (o0 o1 : Output) (stays : Stays w
   ended_short same = ended_out [] (same ∙ written_none o0) (if_all h0.disk (λ disk. has_nothing refl))
 
   -- the host failed
-  ended_host : (bytes : List ℕ) → o1.written ≡ option_map (λ so_far. so_far ++ bytes) o0.written → EndsWithFault (IsEchoed words) o0 o1 bytes → HostFailedFirst (moment h0 o0) (moment h1 o1) → OutKeeps o0 o1
+  ended_host : (bytes : List ℕ) → o1.written ≡ option_map (λ so_far. so_far ++ bytes) o0.written → EndsWithFault (IsEchoed words) o0 o1 bytes → HostFailedBeforeReport (moment h0 o0) (moment h1 o1) → OutKeeps o0 o1
       → (explain_command words ≡ None → ⊥) → Promised answers.HostFault
   ended_host bytes text ends first keeps some = record {
     explained = λ e. absurd cc;
@@ -210,7 +210,7 @@ answered_short words host x = ended_short words host host x x (all_stays words h
 
 -- ---- an explanation
 
-is_of_explaining : (why : Refusal) → IsOfExplaining (fault_of why)
+is_of_explaining : (why : PlanRefusal) → IsOfExplaining (fault_of why)
 is_of_explaining (refusals.Load fault) = tt
 is_of_explaining (refusals.Request fault) = tt
 is_of_explaining (refusals.Generation fault) = tt
@@ -227,7 +227,7 @@ module _ (law : OneMeaning) (words : List Word) (command : ExplainCommand) (aske
   IsPromised = IsAnswered words (moment h0 o0) (moment h1 o1)
 
   -- the files and the words came to this
-  abbrev CameTo : Result Made Stop → Type 0
+  abbrev CameTo : Result Made PlanStop → Type 0
   CameTo result = IfSome h0.disk (λ disk. IsPrepared disk command.words echoes result)
 
   free_words : explained_words words ≡ Some command.words
@@ -245,7 +245,7 @@ module _ (law : OneMeaning) (words : List Word) (command : ExplainCommand) (aske
       subst IsPromised (sym is) (ended_memory words h0 h1 o0 o1 it_stays bytes s (λ part front. if_map h0.disk (λ now b. has_report b) (begins part front)))
 
   -- there is no plan
-  module _ (why : Refusal) (came : CameTo (Err (stops.Refused why))) (input : IsWholeRefusal why) (same : h1.faults ≡ h0.faults) where
+  module _ (why : PlanRefusal) (came : CameTo (Err (stops.Refused why))) (input : IsWholeRefusal why) (same : h1.faults ≡ h0.faults) where
     abbrev whole_refusal : List ℕ
     whole_refusal = refusal_report echoes [] (fault_of why)
 
@@ -269,7 +269,7 @@ module _ (law : OneMeaning) (words : List Word) (command : ExplainCommand) (aske
     is_echoed : IsEchoed words (echo_lines echoes)
     is_echoed = (command, asked, (echoes, refl))
 
-    first_so : (o1 ≡ with_written (fault_report echoes) o0) ⊎ FailsIn (fault_report echoes) o0 o1 → HostFailedFirst (moment h0 o0) (moment h1 o1)
+    first_so : (o1 ≡ with_written (fault_report echoes) o0) ⊎ FailsIn (fault_report echoes) o0 o1 → HostFailedBeforeReport (moment h0 o0) (moment h1 o1)
     first_so told = record { host = rose; out = o0; sink = refl; echoes = echoes; told = told }
 
     ends_so : (bytes : List ℕ) → ((bytes ≡ fault_report echoes) × (o1.faults ≡ o0.faults)) ⊎ (SinkFailed o0 o1 × IsFrontOf bytes (fault_report echoes)) → EndsWithFault (IsEchoed words) o0 o1 bytes
@@ -285,10 +285,10 @@ module _ (law : OneMeaning) (words : List Word) (command : ExplainCommand) (aske
         subst IsPromised (sym is) (ended_memory words h0 h1 o0 o1 it_stays (fault_report echoes) s (λ part front. if_all h0.disk (λ disk. has_fault (echo_lines echoes) rose is_echoed front)))
 
   -- whatever the files and the words came to, if not to a plan
-  pub answered_stop : (stop : Stop) (result : Answer) → CameTo (Err stop) → IsWholeStop stop → CountsStop stop h0 h1 → AnswersStop echoes stop o0 o1 result → IsPromised result
+  pub answered_stop : (stop : PlanStop) (result : Answer) → CameTo (Err stop) → IsWholeStop stop → CountsStop stop h0 h1 → AnswersStop echoes stop o0 o1 result → IsPromised result
   answered_stop (stops.Refused why) result came input counts told = answered_refusal why came input counts result told
   answered_stop stops.HostInLoad result came input counts told = answered_fault counts result told
-  answered_stop stops.Host result came input counts told = answered_fault counts result told
+  answered_stop stops.HostInGeneration result came input counts told = answered_fault counts result told
   answered_stop stops.OutOfMemory result came input counts told = subst IsPromised (sym told.0) (ended_short words h0 h1 o0 o1 it_stays told.1)
 
   -- there is a plan, of which this was found

@@ -5,11 +5,11 @@ use Rattle.std.specs.List.{filter_map}
 use Rattle.std.specs.Option.{IfSome}
 use Rattle.std.specs.Str.{bytes_eq}
 use Rattle.std.specs.Fmt.{decimal}
-use Rattle.b2_words.specs.Words.{Word, Item, number, most_jobs, most_steps, jobs_meant, digest_meant, build_options, options_meant, command_meant, with_words, command_asked, meant, meaning, items, by_shape, after_lead, drill_reading, reading_by, reading, stand_once, first, stands, jobs_in, by_in, word_in, is_all, is_quit, is_steps, is_table, is_explain, is_clean}
-use Rattle.b2_words.specs.declared.words.BuildOptions.{BuildOptions}
-use Rattle.b2_words.specs.declared.words.Command.{Command}
-use Rattle.b2_words.specs.declared.words.Command.TheVariants as commands
-use Rattle.b2_words.specs.declared.words.Words.{Words}
+use Rattle.b2_command_line.specs.Words.{Word, Item, number, most_jobs, most_steps, jobs_meant, digest_meant, build_options, options_meant, command_meant, with_words, command_asked, meant, meaning, items, by_shape, after_lead, drill_reading, reading_by, reading, stand_once, first, stands, jobs_in, by_in, word_in, is_all, is_quit, is_steps, is_table, is_explain, is_clean}
+use Rattle.b2_command_line.specs.declared.words.BuildOptions.{BuildOptions}
+use Rattle.b2_command_line.specs.declared.words.Command.{Command}
+use Rattle.b2_command_line.specs.declared.words.Command.TheVariants as commands
+use Rattle.b2_command_line.specs.declared.words.Words.{Words}
 use Rattle.b2_top.specs.declared.build_command.BuildCommand.{BuildCommand}
 use Rattle.b2_top.specs.Commands.{options_in, command_of, command_in, build_command}
 use Rattle.b2_top.specs.Laws.{FewJobs}

@@ -7,18 +7,18 @@ use Rattle.b2_base.specs.Bytes.{IsFrontOf}
 use Rattle.b2_host.specs.Outside.{Outside}
 use Rattle.b2_host.specs.Output.{Output, with_written}
 use Rattle.b2_host.specs.OutputLaws.{OutKeeps, out_keeps_same}
-use Rattle.b2_words.specs.Words.{Word}
-use Rattle.b2_planning.specs.declared.planned.Planned.{Planned as Made}
-use Rattle.b2_planning.specs.Plans.{seen}
-use Rattle.b2_front.specs.Laws.{OneMeaning}
-use Rattle.b2_front.specs.Meaning.{BeginLoad, Means}
-use Rattle.b2_front.proofs.LinesBeginTheLoad.{loaded_begins}
-use Rattle.b2_front.specs.Preparing.{IsPrepared, LinesTold, IsWhole as IsWholeStop, Counts}
-use Rattle.b2_front.specs.Refusals.{IsWholeRefusal}
-use Rattle.b2_front.specs.declared.refusal.Refusal.{Refusal}
-use Rattle.b2_front.specs.declared.refusal.Refusal.TheVariants as refusals
-use Rattle.b2_front.specs.declared.refusal.Stop.{Stop}
-use Rattle.b2_front.specs.declared.refusal.Stop.TheVariants as stops
+use Rattle.b2_command_line.specs.Words.{Word}
+use Rattle.b2_request_plan.specs.declared.planned.Planned.{Planned as Made}
+use Rattle.b2_request_plan.specs.Plans.{seen}
+use Rattle.b2_prepare.specs.Laws.{OneMeaning}
+use Rattle.b2_prepare.specs.Meaning.{BeginLoad, Means}
+use Rattle.b2_prepare.proofs.LinesBeginTheLoad.{loaded_begins}
+use Rattle.b2_prepare.specs.Preparing.{IsPrepared, LinesTold, IsWhole as IsWholeStop, Counts}
+use Rattle.b2_prepare.specs.Refusals.{IsWholeRefusal}
+use Rattle.b2_prepare.specs.declared.refusal.PlanRefusal.{PlanRefusal}
+use Rattle.b2_prepare.specs.declared.refusal.PlanRefusal.TheVariants as refusals
+use Rattle.b2_prepare.specs.declared.refusal.PlanStop.{PlanStop}
+use Rattle.b2_prepare.specs.declared.refusal.PlanStop.TheVariants as stops
 use Rattle.b2_runs.specs.Moments.{Moment}
 use Rattle.b2_runs.specs.UpdateAnswers.{SinkFailed}
 use Rattle.b2_refusals.specs.Lines.{usage_line}
@@ -30,13 +30,13 @@ use Rattle.b2_top.specs.Writing.{FailsIn, StopsIn, Says, SaysFault}
 use Rattle.b2_top.specs.Writing.Says.{said, failed, stopped}
 use Rattle.b2_top.specs.Writing.SaysFault.{fault_said, fault_failed, fault_stopped}
 use Rattle.b2_update.specs.Moments.{moment}
-use Rattle.b2_top.specs.declared.look.Look.{Look}
+use Rattle.b2_top.specs.declared.look.LookRequest.{LookRequest}
 use Rattle.b2_top.specs.Looks.{look_of, look_report}
 use Rattle.b2_top.specs.Shows.{HasPlan, HasNoPlan, IsShown, IsRefused, BeginsReport, BeginsSome, IsOfPlanning, IsAnswered}
 use Rattle.b2_top.specs.Shows.BeginsReport.{usage, shown, refused}
 use Rattle.b2_top.specs.Shows.BeginsSome.{nothing, report, host_fault}
 use Rattle.b2_top.specs.Tells.{AnswersWith}
-use Rattle.b2_top.specs.Told.{HostFailedFirst}
+use Rattle.b2_top.specs.BetweenMoments.{HostFailedBeforeReport}
 use Rattle.b2_top.proofs.OnlyPatternsRefuseAPlan.{whole_of, pattern_refused}
 use Rattle.b2_top.proofs.PiecesWrittenMakeTheWhole.{keeps_written, keeps_failed}
 use Rattle.b2_top.proofs.WrittenBytesAreTold.{if_map, if_all, written_told, text_of, faults_of, has_cause}
@@ -134,12 +134,12 @@ answered_usage words host x y result none (stopped is s) =
 
 -- ---- a look
 
-pub is_of_planning : (why : Refusal) → IsOfPlanning (fault_of why)
+pub is_of_planning : (why : PlanRefusal) → IsOfPlanning (fault_of why)
 is_of_planning (refusals.Load fault) = tt
 is_of_planning (refusals.Request fault) = tt
 is_of_planning (refusals.Generation fault) = tt
 
-module _ (law : OneMeaning) (words : List Word) (look : Look) (asked : look_of words ≡ Some look) (h0 h1 : Outside) (o0 o1 : Output) (echoes : List Word) where
+module _ (law : OneMeaning) (words : List Word) (look : LookRequest) (asked : look_of words ≡ Some look) (h0 h1 : Outside) (o0 o1 : Output) (echoes : List Word) where
   not_none : {X : Type 0} → look_of words ≡ None → X
   not_none none = let e : None ≡ Some look = sym none ∙ asked in absurd cc
 
@@ -147,7 +147,7 @@ module _ (law : OneMeaning) (words : List Word) (look : Look) (asked : look_of w
   Promised = IsAnswered words (moment h0 o0) (moment h1 o1)
 
   -- there is a plan
-  abbrev IsTold : Result Made Stop → Type 0
+  abbrev IsTold : Result Made PlanStop → Type 0
   IsTold result = IfSome h0.disk (λ disk. IsPrepared disk look.words echoes result)
 
   module _ (made : Made) (told : IsTold (Ok made)) (same : h1.faults ≡ h0.faults) where
@@ -186,7 +186,7 @@ module _ (law : OneMeaning) (words : List Word) (look : Look) (asked : look_of w
         (λ part front. if_map h0.disk (λ disk h. report (shown whole_look (is_shown disk h) front)) told))
 
   -- there is none
-  module _ (why : Refusal) (told : IsTold (Err (stops.Refused why))) (input : IsWholeRefusal why) (same : h1.faults ≡ h0.faults) where
+  module _ (why : PlanRefusal) (told : IsTold (Err (stops.Refused why))) (input : IsWholeRefusal why) (same : h1.faults ≡ h0.faults) where
     abbrev whole_refusal : List ℕ
     whole_refusal = refusal_report echoes [] (fault_of why)
 
@@ -211,8 +211,8 @@ module _ (law : OneMeaning) (words : List Word) (look : Look) (asked : look_of w
       whole = whole_of why input;
       not_failed = is_of_planning why;
       complete = if_map h0.disk (λ disk h plan.
-          inr (subst (λ (l : Look). IsPatternRefused disk l.words (answers.Refused (fault_of why))) (sym (same_look disk plan))
-          (pattern_refused law disk look.words plan.echoes echoes plan.planned (subst (λ (l : Look). Means disk None l.words plan.echoes (Ok plan.planned)) (same_look disk plan) plan.means) why input h))) told;
+          inr (subst (λ (l : LookRequest). IsPatternRefused disk l.words (answers.Refused (fault_of why))) (sym (same_look disk plan))
+          (pattern_refused law disk look.words plan.echoes echoes plan.planned (subst (λ (l : LookRequest). Means disk None l.words plan.echoes (Ok plan.planned)) (same_look disk plan) plan.means) why input h))) told;
       cause = if_map h0.disk (λ disk h. (echoes, no_plan disk h)) told;
       out_keeps = keeps_written whole_refusal o0 o1 p;
     })
@@ -227,7 +227,7 @@ module _ (law : OneMeaning) (words : List Word) (look : Look) (asked : look_of w
   module _ (begins : IfSome h0.disk (λ disk. BeginLoad disk look.words echoes)) (rose : Rose h0.faults h1.faults) where
     ended_host : (bytes : List ℕ) → o1.written ≡ option_map (λ so_far. so_far ++ bytes) o0.written
         → ((bytes ≡ fault_report echoes) × (o1.faults ≡ o0.faults)) ⊎ (SinkFailed o0 o1 × IsFrontOf bytes (fault_report echoes))
-        → HostFailedFirst (moment h0 o0) (moment h1 o1) → OutKeeps o0 o1 → Promised answers.HostFault
+        → HostFailedBeforeReport (moment h0 o0) (moment h1 o1) → OutKeeps o0 o1 → Promised answers.HostFault
     ended_host bytes text ended first keeps = record {
       shown = λ e. absurd cc;
       reported = written_told (moment h0 o0) (moment h1 o1) bytes _ text (if_map h0.disk (λ disk b. record { look = look; echoes = echoes; asked = asked; begins = b; ended = ended }) begins);
@@ -243,7 +243,7 @@ module _ (law : OneMeaning) (words : List Word) (look : Look) (asked : look_of w
       out_keeps = keeps;
     }
 
-    first_so : (o1 ≡ with_written (fault_report echoes) o0) ⊎ FailsIn (fault_report echoes) o0 o1 → HostFailedFirst (moment h0 o0) (moment h1 o1)
+    first_so : (o1 ≡ with_written (fault_report echoes) o0) ⊎ FailsIn (fault_report echoes) o0 o1 → HostFailedBeforeReport (moment h0 o0) (moment h1 o1)
     first_so told = record { host = rose; out = o0; sink = refl; echoes = echoes; told = told }
 
     pub answered_fault : (result : Answer) → SaysFault (fault_report echoes) o0 o1 result → Promised result
@@ -256,10 +256,10 @@ module _ (law : OneMeaning) (words : List Word) (look : Look) (asked : look_of w
         (λ part front. if_map h0.disk (λ disk b. host_fault look echoes asked b rose front) begins))
 
   -- whatever the files and the words came to
-  pub answered : (result : Result Made Stop) (answer : Answer) → IsTold result → IfSome h0.disk (λ disk. LinesTold disk look.words echoes result) → IfErr result IsWholeStop → Counts result h0 h1 → AnswersWith look.view echoes result o0 o1 answer → Promised answer
+  pub answered : (result : Result Made PlanStop) (answer : Answer) → IsTold result → IfSome h0.disk (λ disk. LinesTold disk look.words echoes result) → IfErr result IsWholeStop → Counts result h0 h1 → AnswersWith look.view echoes result o0 o1 answer → Promised answer
   answered (Ok made) answer told lines whole counts says = answered_look made told counts answer says
   answered (Err (stops.Refused why)) answer told lines whole counts says = answered_refusal why told whole counts answer says
   answered (Err stops.HostInLoad) answer told lines whole counts says = answered_fault lines counts answer says
-  answered (Err stops.Host) answer told lines whole counts says = answered_fault (if_map h0.disk (λ disk has. loaded_begins disk look.words echoes has) lines) counts answer says
+  answered (Err stops.HostInGeneration) answer told lines whole counts says = answered_fault (if_map h0.disk (λ disk has. loaded_begins disk look.words echoes has) lines) counts answer says
   answered (Err stops.OutOfMemory) answer told lines whole counts says =
       subst Promised (sym says.0) (ended_short words h0 h1 o0 o1 says.1 (λ none. not_none none))

@@ -10,25 +10,25 @@ use Rattle.b2_props.specs.declared.request_fault.RequestFault.{RequestFault}
 use Rattle.b2_props.specs.declared.request_fault.RequestFault.TheVariants as asking
 use Rattle.b2_alternatives.specs.declared.fault.ChoiceFault.{ChoiceFault}
 use Rattle.b2_alternatives.specs.declared.fault.ChoiceFault.TheVariants as choosing
-use Rattle.b2_conversions.specs.Faults as made
-use Rattle.b2_conversions.specs.declared.fault.MakingFault.{MakingFault}
-use Rattle.b2_conversions.specs.declared.fault.MakingFault.TheVariants as making
-use Rattle.b2_walk.specs.Faults.{eval_refusal, lex_refusal, syntax_refusal, feature_refusal, refusal_of as load_refusal, refused_by as load_refused_by}
-use Rattle.b2_walk.specs.Walks.{Refusal as LoadRefusal}
-use Rattle.b2_walk.specs.declared.fault.LoadFault.{LoadFault}
-use Rattle.b2_walk.specs.declared.fault.LoadFault.TheVariants as loading
+use Rattle.b2_making.specs.Faults as made
+use Rattle.b2_making.specs.declared.fault.MakingFault.{MakingFault}
+use Rattle.b2_making.specs.declared.fault.MakingFault.TheVariants as making
+use Rattle.b2_project_walk.specs.Faults.{eval_refusal, lex_refusal, syntax_refusal, feature_refusal, refusal_of as load_refusal, refused_by as load_refused_by}
+use Rattle.b2_project_walk.specs.Walks.{Refusal as LoadRefusal}
+use Rattle.b2_project_walk.specs.declared.fault.LoadFault.{LoadFault}
+use Rattle.b2_project_walk.specs.declared.fault.LoadFault.TheVariants as loading
 use Rattle.b2_generate.specs.Faults.{Fault as Generating, no_target, target_cycle, usage_conflict, not_chosen, not_made}
 use Rattle.b2_generate.specs.Planning.{Planned}
-use Rattle.b2_generate.specs.Told.{unless}
+use Rattle.b2_generate.specs.ToldOutcomes.{unless}
 use Rattle.b2_generate.specs.declared.fault.GenFault.{GenFault}
 use Rattle.b2_generate.specs.declared.fault.GenFault.TheVariants as generating
-use Rattle.b2_front.specs.Laws.{OneMeaning}
-use Rattle.b2_front.specs.Meaning.{Refusal as Why, of_load, of_request, of_generation, IsRefusedInGeneration, Means}
-use Rattle.b2_front.specs.Preparing.{IfRefusal, IfOfGeneration, IsPrepared, call_of}
-use Rattle.b2_front.specs.Refusals.{refusal_of, IsWholeRefusal}
-use Rattle.b2_front.specs.declared.refusal.Refusal.{Refusal}
-use Rattle.b2_front.specs.declared.refusal.Refusal.TheVariants as refusals
-use Rattle.b2_front.specs.declared.refusal.Stop.TheVariants as stops
+use Rattle.b2_prepare.specs.Laws.{OneMeaning}
+use Rattle.b2_prepare.specs.Meaning.{Refusal as Why, of_load, of_request, of_generation, IsRefusedInGeneration, Means}
+use Rattle.b2_prepare.specs.Preparing.{IfRefusal, IfOfGeneration, IsPrepared, call_of}
+use Rattle.b2_prepare.specs.Refusals.{refusal_of, IsWholeRefusal}
+use Rattle.b2_prepare.specs.declared.refusal.PlanRefusal.{PlanRefusal}
+use Rattle.b2_prepare.specs.declared.refusal.PlanRefusal.TheVariants as refusals
+use Rattle.b2_prepare.specs.declared.refusal.PlanStop.TheVariants as stops
 use Rattle.b2_refusals.specs.Wholes.{IsEvalRefusal, IsLoadRefusal, IsChoiceRefusal, IsMakingRefusal, IsGenRefusal, IsWhole}
 use Rattle.b2_top.specs.declared.answer.Answer.TheVariants as answers
 use Rattle.b2_top.specs.RefusalCauses.{fault_of, pattern_of_choice, pattern_of_making, pattern_of_generation, IsPatternRefused}
@@ -90,7 +90,7 @@ generation_whole (generating.NotChosen fault) h = choice_whole fault h
 generation_whole (generating.NotMade fault) h = making_whole fault h
 generation_whole generating.OutOfMemory h = h
 
-pub whole_of : (why : Refusal) → IsWholeRefusal why → IsWhole (fault_of why)
+pub whole_of : (why : PlanRefusal) → IsWholeRefusal why → IsWhole (fault_of why)
 whole_of (refusals.Load fault) h = load_whole fault h
 whole_of (refusals.Request fault) h = request_whole fault h
 whole_of (refusals.Generation fault) h = generation_whole fault h
@@ -175,7 +175,7 @@ module _ (law : OneMeaning) (disk : Disk) (words echoes others : List Text) (pla
   by_generation (generating.NotMade fault) h told = by_making fault h told
   by_generation generating.OutOfMemory h told = absurd h
 
-  pub pattern_refused : (why : Refusal) → IsWholeRefusal why → IsPrepared disk words others (Err (stops.Refused why)) → IsPatternRefused disk words (answers.Refused (fault_of why))
+  pub pattern_refused : (why : PlanRefusal) → IsWholeRefusal why → IsPrepared disk words others (Err (stops.Refused why)) → IsPatternRefused disk words (answers.Refused (fault_of why))
   pattern_refused (refusals.Load fault) h told = (by_load fault (load_found fault h) told, (others, told))
   pattern_refused (refusals.Request fault) h told = absurd (by_request fault h told)
   pattern_refused (refusals.Generation fault) h told = (by_generation fault h told, (others, told))

@@ -9,12 +9,12 @@ use Rattle.b2_top.proofs.TrueLinesAreStable.{line_stable}
 use Rattle.b2_top.proofs.UpdatesAnswerAsPromised.{both_follow}
 use Rattle.b2_top.specs.RefusalCauses.{IsPatternRefused}
 use Rattle.b2_top.specs.Endings.{IsOrCutShort, IfRefused}
-use Rattle.b2_top.specs.Told.{StaysStill}
+use Rattle.b2_top.specs.BetweenMoments.{StaysStill}
 use Rattle.b2_top.specs.declared.answer.Answer.{Answer}
 use Rattle.b2_top.specs.declared.answer.Answer.TheVariants as answers
 use Rattle.b2_top.specs.declared.build_command.BuildCommand.{BuildCommand}
-use Rattle.b2_front.specs.Laws.{OneMeaning}
-use Rattle.b2_front.specs.Meaning.{Refusal, Means}
+use Rattle.b2_prepare.specs.Laws.{OneMeaning}
+use Rattle.b2_prepare.specs.Meaning.{Refusal, Means}
 use Rattle.b2_generate.specs.Planning.{Planned}
 use Rattle.b2_host.specs.ChildProcesses.{Family, BothTold}
 use Rattle.b2_host.specs.Disks.{Folder, Disk, Past, IsConsistent, bytes_at}
@@ -49,7 +49,7 @@ use Rattle.b2_runs.proofs.TrueFileTells.{empty_file_is_true, file_true_as_past_g
 use Rattle.b2_runs.proofs.DiskStaysSound.{true_log_serves}
 use Rattle.b2_drain.specs.Drains.{Made}
 use Rattle.b2_endings.specs.Endings.{lists_of}
-use Rattle.b2_words.specs.Words.{Word}
+use Rattle.b2_command_line.specs.Words.{Word}
 use Rattle.b2_top.specs.Plans.{HasPlan, options_of, update_at, update_for, MeetsPremises, TellsApart, making_by}
 use Rattle.b2_top.specs.Builds.{HasBuilt, HappenedBy, LeavesClean}
 use Rattle.b2_top.specs.Answered.{ShouldEndWell, AreFresh, AreKept, IsOfEnd, IsAnswered}

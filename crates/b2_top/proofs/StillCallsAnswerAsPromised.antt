@@ -6,15 +6,15 @@ use Rattle.b2_top.proofs.WrittenBytesAreTold.{if_map, if_all, text_of, faults_of
 use Rattle.b2_top.proofs.PiecesWrittenMakeTheWhole.{written_none, keeps_written, keeps_failed}
 use Rattle.b2_top.specs.RefusalCauses.{fault_of, IsPatternRefused}
 use Rattle.b2_top.specs.Reports.{refusal_report, fault_report}
-use Rattle.b2_top.specs.Told.{HostFailedFirst, StaysStill}
+use Rattle.b2_top.specs.BetweenMoments.{HostFailedBeforeReport, StaysStill}
 use Rattle.b2_top.specs.Writing.{FailsIn, StopsIn, Says, SaysFault}
 use Rattle.b2_top.specs.Writing.Says.{said, failed, stopped}
 use Rattle.b2_top.specs.Writing.SaysFault.{fault_said, fault_failed, fault_stopped}
 use Rattle.b2_top.specs.declared.answer.Answer.{Answer}
 use Rattle.b2_top.specs.declared.answer.Answer.TheVariants as answers
 use Rattle.b2_top.specs.declared.build_command.BuildCommand.{BuildCommand}
-use Rattle.b2_front.specs.declared.refusal.Refusal.{Refusal}
-use Rattle.b2_front.specs.declared.refusal.Refusal.TheVariants as refusals
+use Rattle.b2_prepare.specs.declared.refusal.PlanRefusal.{PlanRefusal}
+use Rattle.b2_prepare.specs.declared.refusal.PlanRefusal.TheVariants as refusals
 use Rattle.b2_host.specs.ChildProcesses.{Family, BothTold}
 use Rattle.b2_host.specs.Disks.{Disk}
 use Rattle.b2_base.specs.Counts.{Rose}
@@ -31,12 +31,12 @@ use Rattle.b2_runs.specs.PlanChildren.{AreOfOpenSteps}
 use Rattle.b2_runs.specs.UpdateAnswers.{UpdateAnswer.all_went, failed_of}
 use Rattle.b2_drain.specs.Drains.{Made}
 use Rattle.b2_update.specs.Moments.{moment}
-use Rattle.b2_words.specs.Words.{Word}
+use Rattle.b2_command_line.specs.Words.{Word}
 use Rattle.b2_top.specs.Commands.{build_command}
 use Rattle.b2_top.specs.Plans.{HasPlan}
 use Rattle.b2_top.specs.Causes.{HasNoPlan}
 use Rattle.b2_top.specs.Builds.{RefusedBy, run_answer}
-use Rattle.b2_front.specs.Meaning.{BeginLoad}
+use Rattle.b2_prepare.specs.Meaning.{BeginLoad}
 use Rattle.b2_top.specs.Reported.{IsRefusalReport, IsFaultReport, BeginsEarly, BeginsSome, WroteEarly, RefusalTold, TellsFault}
 use Rattle.b2_top.specs.Reported.IsEarlyReport.{usage, refusal}
 use Rattle.b2_top.specs.Reported.BeginsSome.{nothing, reporting, faulting}
@@ -197,37 +197,37 @@ module _ (made : Made) (words : List Word) (h0 h1 : Outside) (o0 o1 : Output) (i
 
   -- ---- a refusal
 
-  refused_by : (why : Refusal) (echoes : List Word) (disk : Disk) → HasNoPlan words disk echoes (fault_of why) → RefusedBy made words h0 h1 disk disk (fault_of why)
+  refused_by : (why : PlanRefusal) (echoes : List Word) (disk : Disk) → HasNoPlan words disk echoes (fault_of why) → RefusedBy made words h0 h1 disk disk (fault_of why)
   refused_by (refusals.Load fault) echoes disk c = (still, (echoes, c))
   refused_by (refusals.Request fault) echoes disk c = (still, (echoes, c))
   refused_by (refusals.Generation fault) echoes disk c = (still, (echoes, c))
 
-  told_by : (why : Refusal) (disk : Disk) (events : List ChildEvent) → WroteEarly (moment h0 o0) (moment h1 o1) events (IsRefusalReport words disk (fault_of why))
+  told_by : (why : PlanRefusal) (disk : Disk) (events : List ChildEvent) → WroteEarly (moment h0 o0) (moment h1 o1) events (IsRefusalReport words disk (fault_of why))
       → RefusalTold made words (moment h0 o0) (moment h1 o1) disk disk events (fault_of why)
   told_by (refusals.Load fault) disk events w = w
   told_by (refusals.Request fault) disk events w = w
   told_by (refusals.Generation fault) disk events w = w
 
-  starts_by : (why : Refusal) → RefusedStill (fault_of why) h0 h1
+  starts_by : (why : PlanRefusal) → RefusedStill (fault_of why) h0 h1
   starts_by (refusals.Load fault) = still
   starts_by (refusals.Request fault) = still
   starts_by (refusals.Generation fault) = still
 
-  patterns_by : (why : Refusal) (disk : Disk) → ((plan : HasPlan words disk) → IsPatternRefused disk plan.command.words (answers.Refused (fault_of why)))
+  patterns_by : (why : PlanRefusal) (disk : Disk) → ((plan : HasPlan words disk) → IsPatternRefused disk plan.command.words (answers.Refused (fault_of why)))
       → OnlyPatternRefused words disk (fault_of why)
   patterns_by (refusals.Load fault) disk f = f
   patterns_by (refusals.Request fault) disk f = f
   patterns_by (refusals.Generation fault) disk f = f
 
-  turns_by : (why : Refusal) → TurnsTold words h0 h1 (answers.Refused (fault_of why))
+  turns_by : (why : PlanRefusal) → TurnsTold words h0 h1 (answers.Refused (fault_of why))
   turns_by (refusals.Load fault) = no_turns (answers.Refused (fault_of (refusals.Load fault))) (λ e. cc) refl
   turns_by (refusals.Request fault) = no_turns (answers.Refused (fault_of (refusals.Request fault))) (λ e. cc) refl
   turns_by (refusals.Generation fault) = no_turns (answers.Refused (fault_of (refusals.Generation fault))) (λ e. cc) refl
 
-  report_of : (why : Refusal) (echoes : List Word) (disk : Disk) → HasNoPlan words disk echoes (fault_of why) → IsRefusalReport words disk (fault_of why) (refusal_report echoes [] (fault_of why))
+  report_of : (why : PlanRefusal) (echoes : List Word) (disk : Disk) → HasNoPlan words disk echoes (fault_of why) → IsRefusalReport words disk (fault_of why) (refusal_report echoes [] (fault_of why))
   report_of why echoes disk c = record { echoes = echoes; cause = c; is = refl }
 
-  pub still_refused : (why : Refusal) (echoes : List Word) (result : Answer) → IsWhole (fault_of why) → (build_command words ≡ None → ⊥) → h1.faults ≡ h0.faults
+  pub still_refused : (why : PlanRefusal) (echoes : List Word) (result : Answer) → IsWhole (fault_of why) → (build_command words ≡ None → ⊥) → h1.faults ≡ h0.faults
       → IfSome h0.disk (λ disk. HasNoPlan words disk echoes (fault_of why))
       → IfSome h0.disk (λ disk. (plan : HasPlan words disk) → IsPatternRefused disk plan.command.words (answers.Refused (fault_of why)))
       → Says (answers.Refused (fault_of why)) (refusal_report echoes [] (fault_of why)) o0 o1 result → Promised result
@@ -261,7 +261,7 @@ module _ (made : Made) (words : List Word) (h0 h1 : Outside) (o0 o1 : Output) (i
     fault_at : (disk : Disk) → BeginLoad disk command.words echoes → IsFaultReport words disk (fault_report echoes)
     fault_at disk b = record { command = command; asked = asked; echoes = echoes; begins = b; is = refl }
 
-    still_host : (bytes : List ℕ) → o1.written ≡ option_map (λ so_far. so_far ++ bytes) o0.written → IfSome h0.disk (λ disk. TellsFault words disk o0 o1 bytes) → HostFailedFirst (moment h0 o0) (moment h1 o1) → OutKeeps o0 o1 → Promised answers.HostFault
+    still_host : (bytes : List ℕ) → o1.written ≡ option_map (λ so_far. so_far ++ bytes) o0.written → IfSome h0.disk (λ disk. TellsFault words disk o0 o1 bytes) → HostFailedBeforeReport (moment h0 o0) (moment h1 o1) → OutKeeps o0 o1 → Promised answers.HostFault
     still_host bytes text ended first keeps = record {
       happened = both_still _ (if_all h0.disk (λ disk. inl still));
       counts = first;
@@ -278,7 +278,7 @@ module _ (made : Made) (words : List Word) (h0 h1 : Outside) (o0 o1 : Output) (i
       out_keeps = keeps;
     }
 
-    first_so : (o1 ≡ with_written (fault_report echoes) o0) ⊎ FailsIn (fault_report echoes) o0 o1 → HostFailedFirst (moment h0 o0) (moment h1 o1)
+    first_so : (o1 ≡ with_written (fault_report echoes) o0) ⊎ FailsIn (fault_report echoes) o0 o1 → HostFailedBeforeReport (moment h0 o0) (moment h1 o1)
     first_so told = record { host = rose; out = o0; sink = refl; echoes = echoes; told = told }
 
     pub still_fault : (result : Answer) → SaysFault (fault_report echoes) o0 o1 result → Promised result

@@ -12,11 +12,11 @@ use Rattle.b2_top.specs.Writing.SaysFault.{fault_said, fault_failed, fault_stopp
 use Rattle.b2_top.specs.declared.answer.Answer.{Answer}
 use Rattle.b2_top.specs.declared.answer.Answer.TheVariants as answers
 use Rattle.b2_top.specs.declared.build_command.BuildCommand.{BuildCommand}
-use Rattle.b2_top.specs.Told.{CountsStay, HostFailedFirst}
-use Rattle.b2_front.specs.Meaning.{AsksTests}
-use Rattle.b2_front.specs.Preparing.{IsPrepared}
-use Rattle.b2_planning.specs.Plans.{seen}
-use Rattle.b2_planning.specs.declared.planned.Planned.{Planned}
+use Rattle.b2_top.specs.BetweenMoments.{CountsStay, HostFailedBeforeReport}
+use Rattle.b2_prepare.specs.Meaning.{AsksTests}
+use Rattle.b2_prepare.specs.Preparing.{IsPrepared}
+use Rattle.b2_request_plan.specs.Plans.{seen}
+use Rattle.b2_request_plan.specs.declared.planned.Planned.{Planned}
 use Rattle.b2_host.specs.ChildProcesses.{Family, BothTold}
 use Rattle.b2_host.specs.Disks.{Folder, Disk}
 use Rattle.b2_base.specs.Counts.{Rose}
@@ -47,7 +47,7 @@ use Rattle.b2_update.specs.Moments.{moment}
 use Rattle.b2_update.specs.Updates.{update_of, UpdateTold, IsDone}
 use Rattle.b2_update.specs.declared.update_answer.UpdateAnswer.{UpdateAnswer}
 use Rattle.b2_update.specs.declared.update_answer.UpdateAnswer.TheVariants as ends
-use Rattle.b2_words.specs.Words.{Word}
+use Rattle.b2_command_line.specs.Words.{Word}
 use Rattle.b2_top.specs.Commands.{build_command}
 use Rattle.b2_top.specs.Plans.{HasPlan, options_of, update_for}
 use Rattle.b2_top.specs.Builds.{HasBuilt, LacksSome, MayAnswer, HappenedBy, run_answer}
@@ -392,14 +392,14 @@ module _ (made : Made) (words : List Word) (before after : Moment) (m : Output) 
     line_is : IsLast host_fault_line
     line_is = subst (λ a. AreLast steps s.tests a host_fault_line) (sym is_fault) refl
 
-    fault_ends : (piece : List ℕ) → Follows piece → IsToldOrCut o0 o2 piece host_fault_line → HostFailedFirst before after → OutKeeps o0 o2 → Promised answers.HostFault
+    fault_ends : (piece : List ℕ) → Follows piece → IsToldOrCut o0 o2 piece host_fault_line → HostFailedBeforeReport before after → OutKeeps o0 o2 → Promised answers.HostFault
     fault_ends piece e so first kept_out =
         ends_so answers.HostFault (both_follow h0.disk h2.disk (λ disk later b. inr (subst (λ a. HasBuilt made words h0 h2 disk later a) is_fault b)) built) first (λ u. cc) tt tt (λ disk. tt)
         (both_follow h0.disk h2.disk (λ disk later w events are. inr (subst (λ a. WroteUpdate made words before after disk later events a (IsToldOrCut o0 o2)) is_fault (w events are)))
         (wrote (IsToldOrCut o0 o2) host_fault_line piece line_is e so))
         (cut_now host_fault (λ u. cc) refl) kept_out
 
-    first_so : (o2 ≡ with_written (fault_report []) m) ⊎ FailsIn (fault_report []) m o2 → HostFailedFirst before after
+    first_so : (o2 ≡ with_written (fault_report []) m) ⊎ FailsIn (fault_report []) m o2 → HostFailedBeforeReport before after
     first_so told = record { host = rose; out = m; sink = same_sink sink_stays; echoes = []; told = told }
 
     pub ended_fault : (result : Answer) → SaysFault (fault_report []) m o2 result → Promised result

@@ -3,7 +3,7 @@ use Rattle.std.specs.Prelude.{◌≡◌, ◌⊎◌, ℕ, ◌≤◌, Bool, true, 
 use Rattle.std.specs.List.{Contains}
 use Rattle.b2_top.specs.RefusalCauses.{IsPatternRefused}
 use Rattle.b2_top.specs.Endings.{IsOrCutShort, IsUsageOrCutShort, IfRefused}
-use Rattle.b2_top.specs.Told.{CountsStay, HostFailedFirst, StaysStill}
+use Rattle.b2_top.specs.BetweenMoments.{CountsStay, HostFailedBeforeReport, StaysStill}
 use Rattle.b2_top.specs.declared.answer.Answer.{Answer}
 use Rattle.b2_top.specs.declared.answer.Answer.TheVariants as answers
 use Rattle.b2_top.specs.declared.build_command.BuildCommand.{BuildCommand}
@@ -33,7 +33,7 @@ use Rattle.b2_runs.specs.Runs.{Settled}
 use Rattle.b2_runs.specs.Staleness.{Update, IsRecorded}
 use Rattle.b2_runs.specs.UpdateAnswers.{SinkFailed, WaitFailed, LeavesOpen, HasHappened}
 use Rattle.b2_drain.specs.Drains.{Made}
-use Rattle.b2_words.specs.Words.{Word}
+use Rattle.b2_command_line.specs.Words.{Word}
 use Rattle.b2_top.specs.Commands.{build_command}
 use Rattle.b2_top.specs.Plans.{HasPlan, update_for, MeetsPremises, TellsApart, making_by}
 use Rattle.b2_top.specs.Builds.{HappenedBy, LeavesClean, run_answer}
@@ -96,7 +96,7 @@ CountsTold before after answers.Ok = CountsStay before after
 CountsTold before after (answers.Failed lists) = CountsStay before after
 CountsTold before after (answers.Refused fault) = CountsStay before after
 CountsTold before after answers.Usage = CountsStay before after
-CountsTold before after answers.HostFault = HostFailedFirst before after
+CountsTold before after answers.HostFault = HostFailedBeforeReport before after
 CountsTold before after answers.OutOfMemory = after.out.faults ≡ before.out.faults
 CountsTold before after answers.SinkFault = SinkFailed before.out after.out × StaysOrWaits before.host after.host
 

@@ -1,10 +1,10 @@
 -- What words ask to be explained or cleaned.
 use Rattle.std.specs.Prelude.{Bool, true, false, List, Option, Some, None, if◌then◌else◌}
 use Rattle.std.specs.Option.{option_map}
-use Rattle.b2_words.specs.Words.{Word, reading}
-use Rattle.b2_words.specs.declared.words.Command.{Command}
-use Rattle.b2_words.specs.declared.words.Command.TheVariants as commands
-use Rattle.b2_words.specs.declared.words.Words.{Words}
+use Rattle.b2_command_line.specs.Words.{Word, reading}
+use Rattle.b2_command_line.specs.declared.words.Command.{Command}
+use Rattle.b2_command_line.specs.declared.words.Command.TheVariants as commands
+use Rattle.b2_command_line.specs.declared.words.Words.{Words}
 use Rattle.b2_top.specs.declared.asked.ExplainCommand.{ExplainCommand}
 
 -- whether all is to run, if a command is an explanation

@@ -5,7 +5,7 @@ use Rattle.b2_top.specs.declared.answer.Answer.TheVariants as answers
 use Rattle.b2_host.specs.Disks.{Disk}
 use Rattle.b2_host.specs.Outside.{Read, Outside}
 use Rattle.b2_plan.specs.Plans.{Apart}
-use Rattle.b2_front.specs.Meaning.{AsksTests}
+use Rattle.b2_prepare.specs.Meaning.{AsksTests}
 use Rattle.b2_log.specs.declared.line.LogLine.{LogLine}
 use Rattle.b2_refusals.specs.declared.fault.Fault.{Fault}
 use Rattle.b2_refusals.specs.declared.fault.Fault.TheVariants as faults
@@ -16,12 +16,12 @@ use Rattle.b2_runs.specs.UpdateAnswers.UpdateAnswer.{all_went, failed as some_fa
 use Rattle.b2_runs.specs.UpdateAnswers.UpdateAnswer.{host_fault, sink_fault, out_of_memory}
 use Rattle.b2_endings.specs.Endings.{lists_of}
 use Rattle.b2_drain.specs.Drains.{Made}
-use Rattle.b2_words.specs.Words.{Word}
+use Rattle.b2_command_line.specs.Words.{Word}
 use Rattle.b2_top.specs.Commands.{build_command}
 use Rattle.b2_top.specs.Plans.{HasPlan, build_at, update_for, MeetsPremises}
 use Rattle.b2_top.specs.Causes.{HasNoPlan}
 use Rattle.b2_top.specs.LastLines.{LacksVerdicts}
-use Rattle.b2_top.specs.Told.{StaysStill}
+use Rattle.b2_top.specs.BetweenMoments.{StaysStill}
 
 -- The plan asks for some tests, and the sink failed or memory ran out at their verdicts.
 abbrev pub LacksSome : {words : List Word} → {disk : Disk} → HasPlan words disk → Answer → Type 0

@@ -2,7 +2,7 @@
 use Rattle.std.specs.Prelude.{◌≡◌, List, Some}
 use Rattle.b2_host.specs.Disks.{Disk}
 use Rattle.b2_refusals.specs.declared.fault.Fault.{Fault}
-use Rattle.b2_words.specs.Words.{Word}
+use Rattle.b2_command_line.specs.Words.{Word}
 use Rattle.b2_top.specs.declared.build_command.BuildCommand.{BuildCommand}
 use Rattle.b2_top.specs.Commands.{build_command}
 use Rattle.b2_top.specs.RefusalCauses.{HasCause}

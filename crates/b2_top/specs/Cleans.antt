@@ -11,7 +11,7 @@ use Rattle.b2_host.specs.Output.{Output, with_written}
 use Rattle.b2_host.specs.OutputLaws.{OutKeeps}
 use Rattle.b2_host.specs.FileCalls.{log_path}
 use Rattle.b2_plan.specs.declared.plan.Plan.{Plan}
-use Rattle.b2_words.specs.Words.{Word}
+use Rattle.b2_command_line.specs.Words.{Word}
 use Rattle.b2_runs.specs.Moments.{Moment}
 use Rattle.b2_runs.specs.Logs.{Making}
 use Rattle.b2_runs.specs.LogFiles.{IsTrueOn}
@@ -30,7 +30,7 @@ use Rattle.b2_top.specs.FreePlans.{HasFreePlan, HasNoFreePlan, IsFreeRefused, En
 use Rattle.b2_top.specs.RefusalCauses.{IsPatternRefused}
 use Rattle.b2_top.specs.Reports.{echo_lines, fault_report}
 use Rattle.b2_top.specs.Shows.{CountsTold, UsageTold, IsOfLook}
-use Rattle.b2_top.specs.Told.{WrittenTold, Wrote}
+use Rattle.b2_top.specs.BetweenMoments.{WrittenTold, Wrote}
 use Rattle.b2_top.specs.Writing.{Writes, unwritten, Says, SaysFault}
 
 -- the words ask for cleaning, and the files and the free words come to a plan

@@ -1,11 +1,11 @@
 -- What words ask to be built.
 use Rattle.std.specs.Prelude.{List, Option, Some, None}
 use Rattle.std.specs.Option.{option_map}
-use Rattle.b2_words.specs.Words.{Word, reading}
-use Rattle.b2_words.specs.declared.words.BuildOptions.{BuildOptions}
-use Rattle.b2_words.specs.declared.words.Command.{Command}
-use Rattle.b2_words.specs.declared.words.Command.TheVariants as commands
-use Rattle.b2_words.specs.declared.words.Words.{Words}
+use Rattle.b2_command_line.specs.Words.{Word, reading}
+use Rattle.b2_command_line.specs.declared.words.BuildOptions.{BuildOptions}
+use Rattle.b2_command_line.specs.declared.words.Command.{Command}
+use Rattle.b2_command_line.specs.declared.words.Command.TheVariants as commands
+use Rattle.b2_command_line.specs.declared.words.Words.{Words}
 use Rattle.b2_top.specs.declared.build_command.BuildCommand.{BuildCommand}
 
 -- how a command builds, if it is a build

@@ -9,9 +9,9 @@ use Rattle.b2_host.specs.OutputLaws.{OutKeeps}
 use Rattle.b2_plan.specs.declared.step.Step.{Step}
 use Rattle.b2_plan.specs.declared.plan.Plan.{Plan}
 use Rattle.b2_log.specs.declared.line.LogLine.{LogLine}
-use Rattle.b2_words.specs.Words.{Word}
+use Rattle.b2_command_line.specs.Words.{Word}
 use Rattle.b2_generate.specs.Planning.{Planned}
-use Rattle.b2_front.specs.Meaning.{Means}
+use Rattle.b2_prepare.specs.Meaning.{Means}
 use Rattle.b2_runs.specs.Moments.{Moment}
 use Rattle.b2_runs.specs.LogFiles.{IsLogIn}
 use Rattle.b2_runs.specs.Staleness.{Update}
@@ -37,7 +37,7 @@ use Rattle.b2_top.specs.Plans.{update_at}
 use Rattle.b2_top.specs.RefusalCauses.{IsPatternRefused}
 use Rattle.b2_top.specs.Reports.{echo_lines, refusal_report, fault_report}
 use Rattle.b2_top.specs.Shows.{CountsTold, UsageTold}
-use Rattle.b2_top.specs.Told.{WrittenTold}
+use Rattle.b2_top.specs.BetweenMoments.{WrittenTold}
 use Rattle.b2_top.specs.Writing.{Says, SaysFault}
 use Rattle.b2_explain.specs.Faults.{ExplainCounts}
 use Rattle.b2_explain.specs.Surveys.{IsStill}

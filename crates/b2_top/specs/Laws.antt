@@ -1,6 +1,6 @@
 -- A law of the words of a build.
 use Rattle.std.specs.Prelude.{◌≡◌, ◌≤◌, List, Some}
-use Rattle.b2_words.specs.Words.{Word}
+use Rattle.b2_command_line.specs.Words.{Word}
 use Rattle.b2_top.specs.declared.build_command.BuildCommand.{BuildCommand}
 use Rattle.b2_top.specs.Commands.{build_command}
 

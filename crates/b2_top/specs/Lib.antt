@@ -27,7 +27,7 @@ pub mod Endings
 pub mod Reports
 pub mod RefusalCauses
 pub mod Writing
-pub mod Told
+pub mod BetweenMoments
 pub mod Commands
 pub mod Laws
 pub mod Plans

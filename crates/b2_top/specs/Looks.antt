@@ -3,17 +3,17 @@ use Rattle.std.specs.Prelude.{ℕ, List, ◌++◌, Option, Some, None}
 use Rattle.std.specs.Option.{option_map}
 use Rattle.std.specs.List.{flat_map}
 use Rattle.b2_generate.specs.Planning.{Line, Planned}
-use Rattle.b2_planning.specs.declared.planned.Built.{Built}
+use Rattle.b2_request_plan.specs.declared.planned.Built.{Built}
 use Rattle.b2_plan.specs.declared.step.Step.{Step}
 use Rattle.b2_refusals.specs.Lines.{table_line, step_lines}
-use Rattle.b2_words.specs.Words.{Word, reading}
-use Rattle.b2_words.specs.declared.words.Command.{Command}
-use Rattle.b2_words.specs.declared.words.Command.TheVariants as commands
-use Rattle.b2_words.specs.declared.words.View.{View}
-use Rattle.b2_words.specs.declared.words.View.TheVariants as views
-use Rattle.b2_words.specs.declared.words.Words.{Words}
+use Rattle.b2_command_line.specs.Words.{Word, reading}
+use Rattle.b2_command_line.specs.declared.words.Command.{Command}
+use Rattle.b2_command_line.specs.declared.words.Command.TheVariants as commands
+use Rattle.b2_command_line.specs.declared.words.View.{View}
+use Rattle.b2_command_line.specs.declared.words.View.TheVariants as views
+use Rattle.b2_command_line.specs.declared.words.Words.{Words}
 use Rattle.b2_top.specs.Reports.{echo_lines}
-use Rattle.b2_top.specs.declared.look.Look.{Look}
+use Rattle.b2_top.specs.declared.look.LookRequest.{LookRequest}
 
 -- ---- words
 
@@ -25,15 +25,15 @@ view_of (commands.Explain all) = None
 view_of commands.Clean = None
 view_of (commands.Drill steps) = None
 
-abbrev pub look_at : List Word → View → Look
+abbrev pub look_at : List Word → View → LookRequest
 look_at free view = record { view = view; words = free }
 
-abbrev pub look_in : Option Words → Option Look
+abbrev pub look_in : Option Words → Option LookRequest
 look_in None = None
 look_in (Some read) = option_map (look_at read.words) (view_of read.command)
 
 -- what words ask to be shown, and of which free words; none where they are not of the grammar, or ask for something else
-abbrev pub look_of : List Word → Option Look
+abbrev pub look_of : List Word → Option LookRequest
 look_of words = look_in (reading words)
 
 -- ---- lines

@@ -1,7 +1,7 @@
 -- What the program is called for, by its words alone.
 use Rattle.std.specs.Prelude.{◌||◌, Bool, List, [], ◌∷◌, Option, Some, None, is_some, unwrap_or, if◌then◌else◌, codes}
 use Rattle.std.specs.Str.{bytes_eq}
-use Rattle.b2_words.specs.Words.{Word, after_lead}
+use Rattle.b2_command_line.specs.Words.{Word, after_lead}
 use Rattle.b2_top.specs.declared.mode.Mode.{Mode}
 use Rattle.b2_top.specs.declared.mode.Mode.TheVariants.{Build, Look, Explain, Clean, Drill}
 

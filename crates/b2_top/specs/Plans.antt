@@ -1,7 +1,7 @@
 -- Plans, and the updates of them that are asked for.
 use Rattle.std.specs.Prelude.{◌≡◌, true, List, [], Some, None, Ok, if◌then◌else◌}
 use Rattle.std.proofs.Common.{ap}
-use Rattle.b2_front.specs.Meaning.{Means}
+use Rattle.b2_prepare.specs.Meaning.{Means}
 use Rattle.b2_generate.specs.Planning.{Planned}
 use Rattle.b2_host.specs.Disks.{Folder, Disk, Past}
 use Rattle.b2_plan.specs.Sources.{Build}
@@ -15,8 +15,8 @@ use Rattle.b2_runs.specs.Staleness.{Update}
 use Rattle.b2_drain.specs.Drains.{Made}
 use Rattle.b2_facts.specs.Digests.{digest_of}
 use Rattle.b2_update.specs.declared.options.Options.{Options}
-use Rattle.b2_words.specs.Words.{Word}
-use Rattle.b2_words.specs.declared.words.BuildOptions.{BuildOptions}
+use Rattle.b2_command_line.specs.Words.{Word}
+use Rattle.b2_command_line.specs.declared.words.BuildOptions.{BuildOptions}
 use Rattle.b2_top.specs.declared.build_command.BuildCommand.{BuildCommand}
 use Rattle.b2_top.specs.Commands.{build_command}
 

@@ -4,24 +4,24 @@ use Rattle.b2_host.specs.Disks.{Disk}
 use Rattle.jam_journal.specs.Tables.{Text}
 use Rattle.jam_effects.specs.Causes.{refused_by}
 use Rattle.jam_effects.specs.declared.fault.EvalFault.{EvalFault}
-use Rattle.b2_walk.specs.Faults.{refused_by as load_refused_by}
+use Rattle.b2_project_walk.specs.Faults.{refused_by as load_refused_by}
 use Rattle.b2_alternatives.specs.declared.fault.ChoiceFault.{ChoiceFault}
 use Rattle.b2_alternatives.specs.declared.fault.ChoiceFault.TheVariants as choosing
-use Rattle.b2_conversions.specs.declared.fault.MakingFault.{MakingFault}
-use Rattle.b2_conversions.specs.declared.fault.MakingFault.TheVariants as making
+use Rattle.b2_making.specs.declared.fault.MakingFault.{MakingFault}
+use Rattle.b2_making.specs.declared.fault.MakingFault.TheVariants as making
 use Rattle.b2_generate.specs.declared.fault.GenFault.{GenFault}
 use Rattle.b2_generate.specs.declared.fault.GenFault.TheVariants as generating
-use Rattle.b2_front.specs.declared.refusal.Refusal.{Refusal}
-use Rattle.b2_front.specs.declared.refusal.Refusal.TheVariants as refusals
-use Rattle.b2_front.specs.declared.refusal.Stop.TheVariants as stops
-use Rattle.b2_front.specs.Preparing.{IsPrepared}
+use Rattle.b2_prepare.specs.declared.refusal.PlanRefusal.{PlanRefusal}
+use Rattle.b2_prepare.specs.declared.refusal.PlanRefusal.TheVariants as refusals
+use Rattle.b2_prepare.specs.declared.refusal.PlanStop.TheVariants as stops
+use Rattle.b2_prepare.specs.Preparing.{IsPrepared}
 use Rattle.b2_refusals.specs.declared.fault.Fault.{Fault}
 use Rattle.b2_refusals.specs.declared.fault.Fault.TheVariants as faults
 use Rattle.b2_top.specs.declared.answer.Answer.{Answer}
 use Rattle.b2_top.specs.declared.answer.Answer.TheVariants as answers
 
 -- the refusal as the program's own
-abbrev pub fault_of : Refusal → Fault
+abbrev pub fault_of : PlanRefusal → Fault
 fault_of (refusals.Load fault) = faults.Load fault
 fault_of (refusals.Request fault) = faults.Request fault
 fault_of (refusals.Generation fault) = faults.Gen fault

@@ -9,7 +9,7 @@ use Rattle.b2_base.specs.Counts.{Rose}
 use Rattle.b2_base.specs.Bytes.{IsFrontOf}
 use Rattle.b2_host.specs.Output.{Output}
 use Rattle.b2_host.specs.declared.children.ChildEvent.{ChildEvent}
-use Rattle.b2_front.specs.Meaning.{BeginLoad, AsksTests}
+use Rattle.b2_prepare.specs.Meaning.{BeginLoad, AsksTests}
 use Rattle.b2_refusals.specs.Lines.{usage_line}
 use Rattle.b2_refusals.specs.declared.fault.Fault.{Fault}
 use Rattle.b2_refusals.specs.declared.fault.Fault.TheVariants as faults
@@ -18,9 +18,9 @@ use Rattle.b2_runs.specs.UpdateAnswers.{UpdateAnswer, SinkFailed, WithLog, Writt
 use Rattle.b2_runs.specs.UpdateAnswers.UpdateAnswer.{all_went, failed as some_failed, step_cycle, too_big, host_fault}
 use Rattle.b2_endings.specs.Endings.{lists_of}
 use Rattle.b2_drain.specs.Drains.{Made}
-use Rattle.b2_words.specs.Words.{Word}
+use Rattle.b2_command_line.specs.Words.{Word}
 use Rattle.b2_top.specs.Commands.{build_command}
-use Rattle.b2_top.specs.Told.{StaysStill, Wrote}
+use Rattle.b2_top.specs.BetweenMoments.{StaysStill, Wrote}
 use Rattle.b2_top.specs.Plans.{HasPlan, update_for, MeetsPremises}
 use Rattle.b2_top.specs.Causes.{HasNoPlan}
 use Rattle.b2_top.specs.Builds.{MayAnswer}

@@ -24,7 +24,7 @@ use Rattle.b2_update.specs.Updates.{UpdateTold}
 use Rattle.b2_update.specs.declared.options.Options.{Options}
 use Rattle.b2_update.specs.declared.update_answer.UpdateAnswer.{UpdateAnswer}
 use Rattle.b2_update.specs.declared.update_answer.UpdateAnswer.TheVariants as ends
-use Rattle.b2_words.specs.Words.{Word}
+use Rattle.b2_command_line.specs.Words.{Word}
 use Rattle.b2_top.specs.Commands.{build_command}
 use Rattle.b2_top.specs.Endings.{IsUsageOrCutShort, IfRefused}
 use Rattle.b2_top.specs.LastLines.{AreVerdictLines}

@@ -7,9 +7,9 @@ use Rattle.b2_base.specs.Bytes.{IsFrontOf}
 use Rattle.b2_host.specs.Outside.{Outside}
 use Rattle.b2_host.specs.Output.{Output, with_written}
 use Rattle.b2_host.specs.OutputLaws.{OutKeeps}
-use Rattle.b2_words.specs.Words.{Word}
+use Rattle.b2_command_line.specs.Words.{Word}
 use Rattle.b2_generate.specs.Planning.{Planned}
-use Rattle.b2_front.specs.Meaning.{BeginLoad, Means}
+use Rattle.b2_prepare.specs.Meaning.{BeginLoad, Means}
 use Rattle.b2_runs.specs.Moments.{Moment}
 use Rattle.b2_runs.specs.UpdateAnswers.{SinkFailed}
 use Rattle.b2_refusals.specs.declared.fault.Fault.{Fault}
@@ -21,8 +21,8 @@ use Rattle.b2_top.specs.declared.answer.Answer.TheVariants as answers
 use Rattle.b2_top.specs.Endings.{IsOrCutShort, IsUsageOrCutShort, IfRefused}
 use Rattle.b2_top.specs.RefusalCauses.{HasCause, IsPatternRefused}
 use Rattle.b2_top.specs.Reports.{refusal_report, fault_report}
-use Rattle.b2_top.specs.Told.{CountsStay, HostFailedFirst, WrittenTold}
-use Rattle.b2_top.specs.declared.look.Look.{Look}
+use Rattle.b2_top.specs.BetweenMoments.{CountsStay, HostFailedBeforeReport, WrittenTold}
+use Rattle.b2_top.specs.declared.look.LookRequest.{LookRequest}
 use Rattle.b2_top.specs.Looks.{look_of, look_report}
 
 -- ---- the counts of faults
@@ -35,7 +35,7 @@ CountsTold before after answers.Ok = CountsStay before after
 CountsTold before after (answers.Failed lists) = CountsStay before after
 CountsTold before after (answers.Refused fault) = CountsStay before after
 CountsTold before after answers.Usage = CountsStay before after
-CountsTold before after answers.HostFault = HostFailedFirst before after
+CountsTold before after answers.HostFault = HostFailedBeforeReport before after
 CountsTold before after answers.OutOfMemory = after.out.faults ≡ before.out.faults
 CountsTold before after answers.SinkFault = SinkFailed before.out after.out × (after.host.faults ≡ before.host.faults)
 
@@ -43,7 +43,7 @@ CountsTold before after answers.SinkFault = SinkFailed before.out after.out × (
 
 -- The words are a look, and the files and the free words come to a plan.
 pub record HasPlan (words : List Word) (disk : Disk) : Type 0 where
-  pub look : Look
+  pub look : LookRequest
   pub echoes : List Word
   pub planned : Planned
   pub asked : look_of words ≡ Some look
@@ -56,7 +56,7 @@ pub record IsShown (words : List Word) (disk : Disk) (written : List ℕ) : Type
 
 -- The words are a look, and the files and the free words come to this fault, after these lines of ECHO.
 pub record HasNoPlan (words : List Word) (disk : Disk) (echoes : List Word) (fault : Fault) : Type 0 where
-  pub look : Look
+  pub look : LookRequest
   pub asked : look_of words ≡ Some look
   pub cause : HasCause disk look.words echoes fault
 
@@ -69,7 +69,7 @@ pub record IsRefused (words : List Word) (disk : Disk) (fault : Fault) (written 
 -- The words are a look, and lines of ECHO that begin those of the load, and the line of a fault of the host were written; or a
 -- beginning of this, where the sink failed too.
 pub record HasHostFault (words : List Word) (disk : Disk) (sink sink_after : Output) (written : List ℕ) : Type 0 where
-  pub look : Look
+  pub look : LookRequest
   pub echoes : List Word
   pub asked : look_of words ≡ Some look
   pub begins : BeginLoad disk look.words echoes
@@ -85,7 +85,7 @@ pub data BeginsReport (words : List Word) (disk : Disk) (written : List ℕ) : T
 pub data BeginsSome (words : List Word) (disk : Disk) (host host_after : ℕ) (written : List ℕ) : Type 0 where
   nothing : written ≡ [] → BeginsSome words disk host host_after written
   report : BeginsReport words disk written → BeginsSome words disk host host_after written
-  host_fault : (look : Look) (echoes : List Word) → look_of words ≡ Some look → BeginLoad disk look.words echoes → Rose host host_after
+  host_fault : (look : LookRequest) (echoes : List Word) → look_of words ≡ Some look → BeginLoad disk look.words echoes → Rose host host_after
       → IsFrontOf written (fault_report echoes) → BeginsSome words disk host host_after written
 
 -- what an answer says of the bytes that were written
@@ -168,5 +168,5 @@ pub record IsAnswered (words : List Word) (before after : Moment) (result : Answ
   pub out_keeps : OutKeeps before.out after.out
 
 -- the same of a call with words that ask for this look
-abbrev pub Shows : Look → Moment → Moment → Answer → Type 0
+abbrev pub Shows : LookRequest → Moment → Moment → Answer → Type 0
 Shows look before after result = (words : List Word) → look_of words ≡ Some look → IsAnswered words before after result

@@ -6,8 +6,8 @@ use Rattle.b2_host.specs.declared.fault.IoFault.TheVariants as faults
 use Rattle.b2_base.specs.Bytes.{IsFrontOf}
 use Rattle.b2_host.specs.Output.{Output, with_written}
 use Rattle.b2_runs.specs.UpdateAnswers.{SinkFailed}
-use Rattle.b2_front.specs.declared.refusal.Stop.{Stop}
-use Rattle.b2_front.specs.declared.refusal.Stop.TheVariants as stops
+use Rattle.b2_prepare.specs.declared.refusal.PlanStop.{PlanStop}
+use Rattle.b2_prepare.specs.declared.refusal.PlanStop.TheVariants as stops
 use Rattle.b2_top.specs.declared.answer.Answer.{Answer}
 use Rattle.b2_top.specs.declared.answer.Answer.TheVariants as answers
 use Rattle.b2_top.specs.RefusalCauses.{fault_of}
@@ -54,9 +54,9 @@ pub data SaysFault (bytes : List ℕ) (before after : Output) (result : Answer) 
   fault_stopped : result ≡ answers.OutOfMemory → StopsIn bytes before after → SaysFault bytes before after result
 
 -- the answer where there is no plan
-abbrev pub AnswersStop : List (List ℕ) → Stop → Output → Output → Answer → Type 0
+abbrev pub AnswersStop : List (List ℕ) → PlanStop → Output → Output → Answer → Type 0
 AnswersStop echoes (stops.Refused why) before after result =
     Says (answers.Refused (fault_of why)) (refusal_report echoes [] (fault_of why)) before after result
 AnswersStop echoes stops.HostInLoad before after result = SaysFault (fault_report echoes) before after result
-AnswersStop echoes stops.Host before after result = SaysFault (fault_report echoes) before after result
+AnswersStop echoes stops.HostInGeneration before after result = SaysFault (fault_report echoes) before after result
 AnswersStop echoes stops.OutOfMemory before after result = (result ≡ answers.OutOfMemory) × (after ≡ before)

@@ -4,9 +4,9 @@ ghost use Rattle.b2_top.specs.Asked.{all_in, is_clean, explain_command, clean_wo
 
 use b2_base::text::Text;
 use b2_base::text_list::TextList;
-use b2_words::fault::WordsFault;
-use b2_words::reader::read_words;
-use b2_words::words::{Command, Words};
+use b2_command_line::fault::WordsFault;
+use b2_command_line::reader::read_words;
+use b2_command_line::words::{Command, Words};
 use std::alloc::Global;
 
 /// What an explanation is asked for.

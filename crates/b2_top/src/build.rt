@@ -13,16 +13,16 @@ use crate::lines::write_echoes;
 use crate::tell::{tell_host_fault, tell_refusal, tell_stop, unwritten};
 use crate::verdicts::tell_verdicts;
 use b2_base::text::Text;
-use b2_front::laws::one_meaning;
-use b2_front::prepare::{Prepared, prepare};
+use b2_command_line::words::BuildOptions;
 use b2_host::children::Children;
 use b2_host::sink::Sink;
 use b2_plan::plan::Plan;
+use b2_prepare::laws::one_meaning;
+use b2_prepare::prepare::{Preparation, prepare};
 use b2_refusals::fault::Fault;
 use b2_update::options::Options;
 use b2_update::update::update;
 use b2_update::update_answer::UpdateAnswer;
-use b2_words::words::BuildOptions;
 use std::alloc::Global;
 use std::mem::forget;
 
@@ -114,7 +114,7 @@ pub fn build<H: Children, S: Sink>(
 {
     one_meaning();
     let options = options_of(command.options);
-    let Prepared {
+    let Preparation {
         echoes,
         result,
         tests,

@@ -4,9 +4,9 @@ ghost use Rattle.b2_top.specs.Commands.{options_in, build_command};
 
 use b2_base::text::Text;
 use b2_base::text_list::TextList;
-use b2_words::fault::WordsFault;
-use b2_words::reader::read_words;
-use b2_words::words::{BuildOptions, Command, Words};
+use b2_command_line::fault::WordsFault;
+use b2_command_line::reader::read_words;
+use b2_command_line::words::{BuildOptions, Command, Words};
 use std::alloc::Global;
 
 /// What a build is asked for.

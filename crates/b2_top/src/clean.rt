@@ -15,15 +15,15 @@ use crate::asked::clean_words;
 use crate::lines::{write_echoes, write_made};
 use crate::tell::{tell_host_fault, tell_stop, tell_usage, unwritten};
 use b2_base::text::Text;
+use b2_command_line::fault::WordsFault;
 use b2_explain::clean::clean_plan;
 use b2_explain::fault::CleanFault;
 use b2_explain::lines::removed_count_line;
-use b2_front::laws::one_meaning;
-use b2_front::prepare::{Prepared, prepare};
 use b2_host::files::Files;
 use b2_host::sink::Sink;
 use b2_plan::plan::Plan;
-use b2_words::fault::WordsFault;
+use b2_prepare::laws::one_meaning;
+use b2_prepare::prepare::{Preparation, prepare};
 use std::alloc::Global;
 
 /// Tells what cleaning came to.
@@ -67,7 +67,7 @@ fn clean<H: Files, S: Sink>(alloc: Global, words: &[Text], host: &mut H, out: &m
     ensures { Cleans words.now (moment (H.outside host.old) (S.output out.old)) (moment (H.outside host.new) (S.output out.new)) result }
 {
     one_meaning();
-    let Prepared {
+    let Preparation {
         echoes,
         result,
         tests: _tests,

@@ -20,21 +20,21 @@ use crate::asked::{ExplainCommand, explain_command};
 use crate::lines::{write_echoes, write_made};
 use crate::tell::{tell_host_fault, tell_refusal, tell_stop, tell_usage, unwritten};
 use b2_base::text::Text;
+use b2_command_line::fault::WordsFault;
 use b2_explain::cause::{Why, WhyList};
 use b2_explain::explain::explain;
 use b2_explain::fault::ExplainFault;
 use b2_explain::lines::cause_line;
-use b2_front::laws::one_meaning;
-use b2_front::prepare::{Prepared, prepare};
 use b2_host::fault::IoFault;
 use b2_host::files::Files;
 use b2_host::sink::Sink;
-use b2_journal::reading::read;
+use b2_journal::log_reading::read;
 use b2_plan::plan::Plan;
 use b2_plan::step::Step;
+use b2_prepare::laws::one_meaning;
+use b2_prepare::prepare::{Preparation, prepare};
 use b2_refusals::fault::Fault;
 use b2_runs::steps::find_step;
-use b2_words::fault::WordsFault;
 use std::alloc::Global;
 
 /// The causes of the needed steps, by the log's file as it stands.
@@ -160,7 +160,7 @@ fn explain_words<H: Files, S: Sink>(
         (moment (H.outside host.new) (S.output out.new)) result }
 {
     one_meaning();
-    let Prepared {
+    let Preparation {
         echoes,
         result,
         tests: _tests,

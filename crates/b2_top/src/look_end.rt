@@ -1,7 +1,7 @@
 //! What the answer of a look is, and what is written with it.
 ghost use Rattle.std.specs.Prelude.{IfErr};
-ghost use Rattle.b2_front.specs.Preparing.{IsWhole as IsWholeStop};
-ghost use Rattle.b2_planning.specs.Plans.{seen};
+ghost use Rattle.b2_prepare.specs.Preparing.{IsWhole as IsWholeStop};
+ghost use Rattle.b2_request_plan.specs.Plans.{seen};
 ghost use Rattle.b2_top.specs.Writing.{Says};
 ghost use Rattle.b2_top.specs.Looks.{look_report};
 ghost use Rattle.b2_top.specs.Tells.{AnswersWith};
@@ -10,10 +10,10 @@ use crate::answer::Answer;
 use crate::look_lines::write_look;
 use crate::tell::{tell_stop, unwritten};
 use b2_base::text::Text;
-use b2_front::prepare::Prepared;
+use b2_command_line::words::View;
 use b2_host::sink::Sink;
-use b2_planning::planned::Planned;
-use b2_words::words::View;
+use b2_prepare::prepare::Preparation;
+use b2_request_plan::planned::Planned;
 use std::alloc::Global;
 use std::mem::forget;
 
@@ -34,11 +34,11 @@ fn tell_look<S: Sink>(
 }
 
 /// Tells what the files and the words came to.
-pub fn tell<S: Sink>(alloc: Global, view: View, prepared: Prepared, out: &mut S) -> Answer
+pub fn tell<S: Sink>(alloc: Global, view: View, prepared: Preparation, out: &mut S) -> Answer
     requires { IfErr prepared.result IsWholeStop }
     ensures { AnswersWith view prepared.echoes prepared.result (S.output out.old) (S.output out.new) result }
 {
-    let Prepared {
+    let Preparation {
         echoes,
         result,
         tests: _tests,

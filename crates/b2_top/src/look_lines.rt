@@ -1,18 +1,18 @@
 //! Lines of looks on the sink, each in one write.
-ghost use Rattle.b2_planning.specs.Plans.{seen};
+ghost use Rattle.b2_request_plan.specs.Plans.{seen};
 ghost use Rattle.b2_refusals.specs.Lines.{step_lines};
 ghost use Rattle.b2_top.specs.Writing.{Writes};
 ghost use Rattle.b2_top.specs.Looks.{table_lines, steps_lines, view_lines, look_report};
 
 use crate::lines::{write_echoes, write_made};
 use b2_base::text::Text;
+use b2_command_line::words::View;
 use b2_host::fault::IoFault;
 use b2_host::sink::Sink;
 use b2_plan::step::Step;
-use b2_planning::planned::{Built, Planned};
 use b2_refusals::lines::{table_line, text_line};
+use b2_request_plan::planned::{Built, Planned};
 use b2_runs::steps::start_line;
-use b2_words::words::View;
 use std::alloc::Global;
 
 fn write_table<S: Sink>(alloc: Global, table: &[Built], out: &mut S) -> Result<(), IoFault>

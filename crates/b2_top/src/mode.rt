@@ -4,7 +4,7 @@ ghost use Rattle.b2_base.specs.Bytes.{HasNoZero};
 ghost use Rattle.b2_top.specs.Modes.{is_drill, mode_named, mode_asked, mode_of};
 
 use b2_base::text::Text;
-use b2_words::lead::after_lead;
+use b2_command_line::lead::after_lead;
 
 /// What the program is called for, by its words alone. The words may still not be of that command's grammar.
 #[derive(Clone, Copy)]

@@ -17,10 +17,10 @@ use crate::build::build;
 use crate::build_command::build_command;
 use crate::tell::tell_usage;
 use b2_base::text::Text;
-use b2_front::laws::one_meaning;
+use b2_command_line::fault::WordsFault;
 use b2_host::children::Children;
 use b2_host::sink::Sink;
-use b2_words::fault::WordsFault;
+use b2_prepare::laws::one_meaning;
 use std::alloc::Global;
 
 /// Reads the words, and builds what they ask for.

@@ -10,19 +10,19 @@ ghost use Rattle.b2_top.specs.Shows.{IsAnswered, Shows};
 ghost use Rattle.b2_update.specs.Moments.{moment};
 
 use crate::answer::Answer;
-use crate::look::{Look, look_of};
+use crate::look::{LookRequest, look_of};
 use crate::look_end::tell;
 use crate::tell::tell_usage;
 use b2_base::text::Text;
-use b2_front::laws::one_meaning;
-use b2_front::prepare::prepare;
+use b2_command_line::fault::WordsFault;
 use b2_host::files::Files;
 use b2_host::sink::Sink;
-use b2_words::fault::WordsFault;
+use b2_prepare::laws::one_meaning;
+use b2_prepare::prepare::prepare;
 use std::alloc::Global;
 
 /// Prepares what the words of a look name, and tells it in the look's view.
-fn show<H: Files, S: Sink>(alloc: Global, look: &Look, host: &mut H, out: &mut S) -> Answer
+fn show<H: Files, S: Sink>(alloc: Global, look: &LookRequest, host: &mut H, out: &mut S) -> Answer
     ensures shows { Shows look.now (moment (H.outside host.old) (S.output out.old)) (moment (H.outside host.new) (S.output out.new)) result }
     ensures disk { (H.outside host.new).disk ≡ (H.outside host.old).disk }
     ensures children { (H.outside host.new).children ≡ (H.outside host.old).children }

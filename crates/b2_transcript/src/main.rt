@@ -6,7 +6,7 @@
 //! - `language`: jam_cases.
 //! - `world`, `evaluation`: jam_interp_cases.
 //! - `properties`, `refinement`: b2_props_cases.
-//! - `declarations`, `references`, `outputs`, `conversions`: b2_conversions_cases.
+//! - `declarations`, `references`, `outputs`, `conversions`: b2_making_cases.
 //! - `loads`: b2_project_cases.
 //! - `graph`: jam_engine_cases.
 //! - `memory`, `real`: b2_cases. The part `real` works in the folder that begins with the files of `data/`.

@@ -28,8 +28,8 @@ use Rattle.b2_runs.specs.Soundness.{Distinguishes}
 use Rattle.b2_runs.specs.LogCourses.{log_file}
 use Rattle.b2_runs.proofs.LastLineIsFound.{found_is_there}
 use Rattle.b2_journal.specs.Notes.{HasLines, Notes}
-use Rattle.b2_facts.specs.declared.stop.Stop.{Stop}
-use Rattle.b2_facts.specs.declared.stop.Stop.TheVariants as stops
+use Rattle.b2_facts.specs.declared.stop.FilesStop.{FilesStop}
+use Rattle.b2_facts.specs.declared.stop.FilesStop.TheVariants as stops
 use Rattle.b2_facts.specs.Stops.{StopTold, stop_of_io}
 use Rattle.b2_reach.specs.declared.sights.Sights.{Sights}
 use Rattle.b2_reach.proofs.GrowthComposes.{both_same}
@@ -64,7 +64,7 @@ present outs log (Some r) e found proper = (r.now, sym found, proper)
 -- ---- exits
 
 -- what is told of disks
-abbrev Drops : {T : Type 0} → Step → Sights → Sights → Result T Stop → Disk → Disk → Type 0
+abbrev Drops : {T : Type 0} → Step → Sights → Sights → Result T FilesStop → Disk → Disk → Type 0
 Drops step s t result = λ before after. (u : Update) (events : List ChildEvent) (i : ℕ) (first : List LogLine) (reads : List Read) → Distinguishes u after.past → step_at u.build.steps i ≡ Some step → HasEnded u events i false first reads before s
     → MatchResult result
     (λ x. IsUnderWay u (events ++ Done i false ∷ []) first reads after t × OthersStayNoted u (events ++ Done i false ∷ []) step before.now s.journal after.now t.journal)
@@ -82,7 +82,7 @@ drop_none step x s none = record {
 }
 
 -- no memory was left
-pub drop_no_memory : (step : Step) (x : Outside) (s : Sights) (r : Result (Unit {0}) Stop) → r ≡ Err stops.OutOfMemory → NotesDrop {T = Unit {0}} step x s x s r
+pub drop_no_memory : (step : Step) (x : Outside) (s : Sights) (r : Result (Unit {0}) FilesStop) → r ≡ Err stops.OutOfMemory → NotesDrop {T = Unit {0}} step x s x s r
 drop_no_memory step x s r is = subst (NotesDrop {T = Unit {0}} step x s x s) (sym is) (record {
   facts = refl;
   way = refl;
@@ -115,7 +115,7 @@ module _ (step : Step) (x y : Outside) (s t : Sights) (r : Record) (made : List 
       }
 
   -- its note failed
-  pub drop_fails : (fault : IoFault) (result : Result (Unit {0}) Stop) → result ≡ Err (stop_of_io fault) → Appends {T = Unit {0}} log_path (spelling (lines.Drop made)) x y (Err fault) → IoFaultTold {T = Unit {0}} x.faults y.faults (Err fault) → BothTold (λ before after. Notes {T = Unit {0}} (lines.Drop made) s.journal before after (Err fault)) x.disk y.disk
+  pub drop_fails : (fault : IoFault) (result : Result (Unit {0}) FilesStop) → result ≡ Err (stop_of_io fault) → Appends {T = Unit {0}} log_path (spelling (lines.Drop made)) x y (Err fault) → IoFaultTold {T = Unit {0}} x.faults y.faults (Err fault) → BothTold (λ before after. Notes {T = Unit {0}} (lines.Drop made) s.journal before after (Err fault)) x.disk y.disk
       → NotesDrop {T = Unit {0}} step x s y t result
   drop_fails fault result is appended counts notes = subst (NotesDrop {T = Unit {0}} step x s y t) (sym is) (record {
     facts = facts_same;

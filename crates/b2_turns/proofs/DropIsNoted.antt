@@ -35,7 +35,7 @@ use Rattle.b2_runs.proofs.RunGoesOn.{run_goes_on}
 use Rattle.b2_runs.proofs.TrueWithLine.{line_grows}
 use Rattle.b2_journal.specs.Notes.{HasLines, Notes}
 use Rattle.b2_journal.proofs.FailedCallsAreCuts.{note_is_cut}
-use Rattle.b2_facts.specs.declared.stop.Stop.TheVariants as stops
+use Rattle.b2_facts.specs.declared.stop.FilesStop.TheVariants as stops
 use Rattle.b2_facts.specs.Facts.{Knowledge, IsAbout}
 use Rattle.b2_facts.specs.Truth.{AreTrue}
 use Rattle.b2_facts.specs.Stops.{stop_of_io}

@@ -36,7 +36,7 @@ use Rattle.b2_reach.specs.Sightings.{AreLined}
 use Rattle.b2_reach.proofs.FoundMakerMakesPath.{maker_makes}
 use Rattle.b2_reach.proofs.ReachGrows.{has_path}
 use Rattle.b2_verdicts.specs.declared.step_numbers.StepNumbers.{StepNumbers}
-use Rattle.b2_verdicts.specs.Calls.{IsOfStep, IsUndigested, IsReadNow, ReadsOnly}
+use Rattle.b2_verdicts.specs.VerdictCalls.{IsOfStep, IsUndigested, IsReadNow, ReadsOnly}
 use Rattle.b2_looks.specs.Judging.{HaveScanLines}
 use Rattle.b2_looks.proofs.LooseAreBlank.{settled_not_loose, blank_learned}
 use Rattle.b2_looks.proofs.JudgementTells.{lined_stays, named_grows, step_path, called, scan_line, sight_asked}

@@ -20,8 +20,8 @@ use Rattle.b2_log.specs.declared.line.LogLine.{LogLine}
 use Rattle.b2_runs.specs.Staleness.{Update}
 use Rattle.b2_runs.specs.Soundness.{Distinguishes, IsAllowedChange}
 use Rattle.b2_runs.proofs.NotedAfterEachEvent.{noted_beside_change}
-use Rattle.b2_facts.specs.declared.stop.Stop.{Stop}
-use Rattle.b2_facts.specs.declared.stop.Stop.TheVariants as stops
+use Rattle.b2_facts.specs.declared.stop.FilesStop.{FilesStop}
+use Rattle.b2_facts.specs.declared.stop.FilesStop.TheVariants as stops
 use Rattle.b2_facts.specs.Growth.{Grows}
 use Rattle.b2_facts.proofs.FactsGrow.{grows_same}
 use Rattle.b2_facts.proofs.ListsAtPlaces.{some_is}
@@ -76,7 +76,7 @@ module _ (u : Update) (events : List ChildEvent) (i : ℕ) (first : List LogLine
       others_stay : (t : Sights) → OthersStayNoted u (events ++ Done i false ∷ []) step between.now s.journal after.now t.journal → OthersStayNoted u (events ++ Done i false ∷ []) step before.now s.journal after.now t.journal
       others_stay t noted k other members at_k differ not inside had = noted k other members at_k differ not inside (noted_beside_change u (events ++ Done i false ∷ []) before between s.journal k other members w.apart removal at_k not inside had)
 
-      pub goes_on_after : (t : Sights) (l : Looks) (r : Result (Unit {0}) Stop) → t.facts ≡ s.facts → AreGone step.outs between → AreTrueLooks u (events ++ Done i false ∷ []) before s l
+      pub goes_on_after : (t : Sights) (l : Looks) (r : Result (Unit {0}) FilesStop) → t.facts ≡ s.facts → AreGone step.outs between → AreTrueLooks u (events ++ Done i false ∷ []) before s l
           → MatchResult r (λ x. IsUnderWay u (events ++ Done i false ∷ []) first reads after t × OthersStayNoted u (events ++ Done i false ∷ []) step between.now s.journal after.now t.journal) (λ stop. IsHalted u (events ++ Done i false ∷ []) reads after t.facts stop)
           → MatchResult r (λ x. OutputsGone u.build.steps i after × IsUnderWay u (events ++ Done i false ∷ []) first (reads ++ []) after t × AreTrueLooks u (events ++ Done i false ∷ []) after t l) (λ stop. IsHalted u (events ++ Done i false ∷ []) (reads ++ []) after t.facts stop)
       goes_on_after t l r facts_same gone looks told = match_map r
@@ -106,38 +106,38 @@ fewer_cleared outs (Some a) (Some b) None told only = absurd only
 fewer_cleared outs (Some a) (Some b) (Some c) removed only = λ path other none. only.others path other ∙ removed.fewer path none
 
 -- what it tells of disks
-abbrev Clears : Plan → Looks → ℕ → Outside → Sights → Outside → Sights → Result (Unit {0}) Stop → Disk → Disk → Type 0
+abbrev Clears : Plan → Looks → ℕ → Outside → Sights → Outside → Sights → Result (Unit {0}) FilesStop → Disk → Disk → Type 0
 Clears plan l i old s new t result = λ before after. (u : Update) (events : List ChildEvent) (first : List LogLine) (reads : List Read) → IsUpdateBy plan l u → Distinguishes u after.past → HasEnded u events i false first reads before s → AreTrueLooks u (events ++ Done i false ∷ []) before s l
     → IsAllowedChange u (events ++ Done i false ∷ []) before after × EndGoesOn u (events ++ Done i false ∷ []) first reads (λ (x : Unit {0}). OutputsGone plan.steps i after) old new after l t result
 
-two : (A R : Disk → Disk → Type 0) (x y : Option Disk) → BothTold A x y → IfSome y IsConsistent → ((a b : Disk) → A a b → IsConsistent b → R a b) → BothTold R x y
-two A R None None p kept f = tt
-two A R None (Some b) p kept f = absurd p
-two A R (Some a) None p kept f = absurd p
-two A R (Some a) (Some b) p kept f = f a b p kept
+told_once : (A R : Disk → Disk → Type 0) (x y : Option Disk) → BothTold A x y → IfSome y IsConsistent → ((a b : Disk) → A a b → IsConsistent b → R a b) → BothTold R x y
+told_once A R None None p kept f = tt
+told_once A R None (Some b) p kept f = absurd p
+told_once A R (Some a) None p kept f = absurd p
+told_once A R (Some a) (Some b) p kept f = f a b p kept
 
-three : (A B C R : Disk → Disk → Type 0) (G : Disk → Type 0) (x y z : Option Disk) → BothTold A x y → IfSome y IsConsistent → IfSome y G → BothTold B y z → BothTold C y z → IfSome z IsConsistent → ((a b c : Disk) → A a b → IsConsistent b → G b → B b c → C b c → IsConsistent c → R a c) → BothTold R x z
-three A B C R G None None None p middle gone q told kept f = tt
-three A B C R G None None (Some c) p middle gone q told kept f = absurd q
-three A B C R G None (Some b) z p middle gone q told kept f = absurd p
-three A B C R G (Some a) None z p middle gone q told kept f = absurd p
-three A B C R G (Some a) (Some b) None p middle gone q told kept f = absurd q
-three A B C R G (Some a) (Some b) (Some c) p middle gone q told kept f = f a b c p middle gone q told kept
+told_through : (A B C R : Disk → Disk → Type 0) (G : Disk → Type 0) (x y z : Option Disk) → BothTold A x y → IfSome y IsConsistent → IfSome y G → BothTold B y z → BothTold C y z → IfSome z IsConsistent → ((a b c : Disk) → A a b → IsConsistent b → G b → B b c → C b c → IsConsistent c → R a c) → BothTold R x z
+told_through A B C R G None None None p middle gone q told kept f = tt
+told_through A B C R G None None (Some c) p middle gone q told kept f = absurd q
+told_through A B C R G None (Some b) z p middle gone q told kept f = absurd p
+told_through A B C R G (Some a) None z p middle gone q told kept f = absurd p
+told_through A B C R G (Some a) (Some b) None p middle gone q told kept f = absurd q
+told_through A B C R G (Some a) (Some b) (Some c) p middle gone q told kept f = f a b c p middle gone q told kept
 
 module _ (plan : Plan) (l : Looks) (i : ℕ) (step : Step) (at : step_at plan.steps i ≡ Some step) (x y : Outside) (s : Sights) where
   at_in : (u : Update) → IsUpdateBy plan l u → step_at u.build.steps i ≡ Some step
   at_in u by = subst (λ steps. step_at steps i ≡ Some step) (sym by.steps) at
 
   -- a removal failed
-  pub told_not_removed : (fault : Failed) (r : Result (Unit {0}) Stop) → r ≡ Err stops.Host → RemovesFiles {T = Unit {0}} step.outs x y (Err fault) → IfSome y.disk IsConsistent → ClearTold plan l i x s y s r
-  told_not_removed fault r is removes consistent = subst (ClearTold plan l i x s y s) (sym is) (two (RemovesOnly step.outs) (Clears plan l i x s y s (Err stops.Host)) x.disk y.disk removes.files consistent (λ before after removed kept u events first reads by distinct w looks. (
+  pub told_not_removed : (fault : Failed) (r : Result (Unit {0}) FilesStop) → r ≡ Err stops.Host → RemovesFiles {T = Unit {0}} step.outs x y (Err fault) → IfSome y.disk IsConsistent → ClearTold plan l i x s y s r
+  told_not_removed fault r is removes consistent = subst (ClearTold plan l i x s y s) (sym is) (told_once (RemovesOnly step.outs) (Clears plan l i x s y s (Err stops.Host)) x.disk y.disk removes.files consistent (λ before after removed kept u events first reads by distinct w looks. (
     removal u events i first reads step (at_in u by) s before after removed kept w,
     record { more = []; adds = adds_none x.reads y.reads (ap (λ (o : Outside). o.reads) removes.rest); after = halted_between u events i first reads step (at_in u by) s before after removed kept w },
   )))
 
   -- all was removed, and the drop was noted, or not
-  pub told_cleared : (z : Outside) (t : Sights) (r : Result (Unit {0}) Stop) → RemovesFiles {T = Unit {0}} step.outs x y (Ok tt) → IfSome y.disk (AreGone step.outs) → NotesDrop {T = Unit {0}} step y s z t r → IfSome y.disk IsConsistent → IfSome z.disk IsConsistent → ClearTold plan l i x s z t r
-  told_cleared z t r removes gone drop consistent later = three (RemovesOnly step.outs) (ChangesOnlyAt log_path) _ (Clears plan l i x s z t r) (AreGone step.outs) x.disk y.disk z.disk removes.files consistent gone drop.only_log.files drop.told later (λ before between after removed middle none only told kept u events first reads by distinct w looks. (
+  pub told_cleared : (z : Outside) (t : Sights) (r : Result (Unit {0}) FilesStop) → RemovesFiles {T = Unit {0}} step.outs x y (Ok tt) → IfSome y.disk (AreGone step.outs) → NotesDrop {T = Unit {0}} step y s z t r → IfSome y.disk IsConsistent → IfSome z.disk IsConsistent → ClearTold plan l i x s z t r
+  told_cleared z t r removes gone drop consistent later = told_through (RemovesOnly step.outs) (ChangesOnlyAt log_path) _ (Clears plan l i x s z t r) (AreGone step.outs) x.disk y.disk z.disk removes.files consistent gone drop.only_log.files drop.told later (λ before between after removed middle none only told kept u events first reads by distinct w looks. (
     cleared u events i first reads step (at_in u by) s before between removed middle w after only kept,
     record {
       more = [];

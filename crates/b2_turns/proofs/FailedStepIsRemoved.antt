@@ -19,7 +19,7 @@ use Rattle.b2_runs.proofs.LogStaysTrue.{log_moves, scanned_after_change, migrate
 use Rattle.b2_runs.proofs.ReadsLeaveLines.{stands_after_change, lines_as_past_grows}
 use Rattle.b2_runs.proofs.ReadsOnce.{reads_as_past_grows}
 use Rattle.b2_runs.proofs.TrueWithLine.{line_grows}
-use Rattle.b2_facts.specs.declared.stop.Stop.{Stop}
+use Rattle.b2_facts.specs.declared.stop.FilesStop.{FilesStop}
 use Rattle.b2_facts.specs.Facts.{Knowledge}
 use Rattle.b2_journal.specs.Notes.{HasLines}
 use Rattle.b2_reach.specs.declared.sights.Sights.{Sights}
@@ -45,7 +45,7 @@ module _ (u : Update) (events : List ChildEvent) (i : ℕ) (first : List LogLine
   )
 
   -- where it stops, the log's file is one that may be left
-  pub ended_halts : (disk : Disk) (f : Knowledge) (stop : Stop) → HasEnded u events i false first reads disk s → IsStopOf u (events ++ Done i false ∷ []) disk f stop → IsHalted u (events ++ Done i false ∷ []) reads disk f stop
+  pub ended_halts : (disk : Disk) (f : Knowledge) (stop : FilesStop) → HasEnded u events i false first reads disk s → IsStopOf u (events ++ Done i false ∷ []) disk f stop → IsHalted u (events ++ Done i false ∷ []) reads disk f stop
   ended_halts disk f stop w big = record {
     sound = w.sound;
     cut = cut_between first s.journal events (Done i false ∷ []) refl w.run (w.may_come.0, tt) w.begins w.course w.good w.file;

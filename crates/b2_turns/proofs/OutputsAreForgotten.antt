@@ -11,7 +11,7 @@ use Rattle.b2_plan.specs.Sources.{Build}
 use Rattle.b2_log.specs.declared.line.LogLine.{LogLine}
 use Rattle.b2_runs.proofs.FirstElementOrLater.{Contains_here, Contains_there, Contains_cases, Contains_nil}
 use Rattle.b2_facts.specs.declared.file_facts.FileFacts.{FileFacts}
-use Rattle.b2_facts.specs.declared.file_facts.Seen.TheVariants as seen
+use Rattle.b2_facts.specs.declared.file_facts.FileLook.TheVariants as seen
 use Rattle.b2_facts.specs.Facts.{Knowledge, IsNumber, IsRead, IsBlank, IsPlanned, IsAbout, file_at, with_file}
 use Rattle.b2_facts.specs.Truth.{AreTrue, AreTrueOfFile}
 use Rattle.b2_facts.proofs.ListsAtPlaces.{some_is, none_some, get_some, set_here, set_there, set_length}

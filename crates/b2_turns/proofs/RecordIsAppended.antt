@@ -34,15 +34,15 @@ use Rattle.b2_runs.proofs.SameByStamp.{stamped_paths}
 use Rattle.b2_runs.proofs.SettledStays.{closure_on_settled}
 use Rattle.b2_journal.specs.Notes.{HasLines, Notes}
 use Rattle.b2_journal.proofs.FailedCallsAreCuts.{note_is_cut}
-use Rattle.b2_facts.specs.declared.stop.Stop.{Stop}
-use Rattle.b2_facts.specs.declared.stop.Stop.TheVariants as stops
+use Rattle.b2_facts.specs.declared.stop.FilesStop.{FilesStop}
+use Rattle.b2_facts.specs.declared.stop.FilesStop.TheVariants as stops
 use Rattle.b2_facts.specs.Stops.{stop_of_io}
 use Rattle.b2_facts.proofs.ListsAtPlaces.{some_is, none_some}
 use Rattle.b2_reach.specs.declared.sights.Sights.{Sights}
 use Rattle.b2_reach.specs.Sightings.{AreLined}
 use Rattle.b2_reach.proofs.TruthIsKept.{sight_moved}
 use Rattle.b2_verdicts.specs.declared.step_numbers.StepNumbers.{StepNumbers}
-use Rattle.b2_verdicts.specs.Calls.{IsOfStep, IsTooBigOf, IfTooBig}
+use Rattle.b2_verdicts.specs.VerdictCalls.{IsOfStep, IsTooBigOf, IfTooBig}
 use Rattle.b2_verdicts.specs.Made.{IsMadeOf, IsWithoutFile}
 use Rattle.b2_verdicts.proofs.TrueFactsTell.{bytes_among}
 use Rattle.b2_verdicts.proofs.MissingFiles.{missing_is_gone}
@@ -83,7 +83,7 @@ module _ (u : Update) (events : List ChildEvent) (i : ℕ) (first : List LogLine
   -- ---- work stops before the note
 
   -- a file of the step that is too big is one
-  pub big_of_ended : (reads : List Read) (disk : Disk) (s : Sights) (stop : Stop) → IsToRecord u later i step numbers members s.facts → HasEnded u events i true first reads disk s → IsTooBigOf (IsOfStep numbers) s.facts disk.now stop → IfTooBig (u.by_digest ≡ true) stop → IsStopOf u later disk s.facts stop
+  pub big_of_ended : (reads : List Read) (disk : Disk) (s : Sights) (stop : FilesStop) → IsToRecord u later i step numbers members s.facts → HasEnded u events i true first reads disk s → IsTooBigOf (IsOfStep numbers) s.facts disk.now stop → IfTooBig (u.by_digest ≡ true) stop → IsStopOf u later disk s.facts stop
   big_of_ended reads disk s stops.Host to w big on = tt
   big_of_ended reads disk s stops.OutOfMemory to w big on = tt
   big_of_ended reads disk s (stops.TooBig n size) to w (inl out, told) on = (
@@ -105,7 +105,7 @@ module _ (u : Update) (events : List ChildEvent) (i : ℕ) (first : List LogLine
   ended_cut : (reads : List Read) (disk : Disk) (s : Sights) → HasEnded u events i true first reads disk s → IsLogCut u later disk.now
   ended_cut reads disk s w = cut_between first s.journal events (Done i true ∷ []) refl w.run (w.may_come.0, tt) w.begins w.course w.good w.file
 
-  pub ended_halted : (reads : List Read) (disk : Disk) (s : Sights) (stop : Stop) → HasEnded u events i true first reads disk s → IsStopOf u later disk s.facts stop → IsHalted u later reads disk s.facts stop
+  pub ended_halted : (reads : List Read) (disk : Disk) (s : Sights) (stop : FilesStop) → HasEnded u events i true first reads disk s → IsStopOf u later disk s.facts stop → IsHalted u later reads disk s.facts stop
   ended_halted reads disk s stop w big = record { sound = w.sound; cut = ended_cut reads disk s w; once = w.once; leave = w.leave; too_big = big }
 
   -- ---- the note

@@ -21,15 +21,15 @@ use Rattle.b2_log.specs.Good.{IsGood}
 use Rattle.b2_runs.specs.Staleness.{Update}
 use Rattle.b2_runs.specs.Soundness.{Distinguishes}
 use Rattle.b2_journal.specs.Notes.{Notes}
-use Rattle.b2_facts.specs.declared.stop.Stop.{Stop}
-use Rattle.b2_facts.specs.declared.stop.Stop.TheVariants as stops
+use Rattle.b2_facts.specs.declared.stop.FilesStop.{FilesStop}
+use Rattle.b2_facts.specs.declared.stop.FilesStop.TheVariants as stops
 use Rattle.b2_facts.specs.Stops.{stop_of_io}
 use Rattle.b2_facts.specs.Truth.{StaysTrue}
 use Rattle.b2_reach.specs.declared.sights.Sights.{Sights}
 use Rattle.b2_reach.proofs.GrowthComposes.{both_same}
 use Rattle.b2_verdicts.specs.declared.step_numbers.StepNumbers.{StepNumbers}
 use Rattle.b2_verdicts.specs.Made.{IsMadeOf, IsWithoutFile}
-use Rattle.b2_verdicts.specs.Calls.{IsOfStep, IsTooBigOf, IfTooBig, Always, Asks}
+use Rattle.b2_verdicts.specs.VerdictCalls.{IsOfStep, IsTooBigOf, IfTooBig, Always, Asks}
 use Rattle.b2_looks.specs.Judging.{OthersStayNoted, GoesOnWith}
 use Rattle.b2_looks.proofs.MigrationEnds.{both_noted}
 use Rattle.b2_turns.specs.Ends.{HasEnded}
@@ -38,18 +38,18 @@ use Rattle.b2_turns.proofs.EndedReads.{needed_later, to_record_grows, ended_aske
 use Rattle.b2_turns.proofs.RecordIsAppended.{none_missing, big_of_ended, ended_halted, recorded, recorded_others, not_recorded}
 
 -- what it tells of disks
-abbrev pub Records : {T : Type 0} → (T → Type 0) → Step → StepNumbers → Outside → Sights → Outside → Sights → Result T Stop → Disk → Disk → Type 0
+abbrev pub Records : {T : Type 0} → (T → Type 0) → Step → StepNumbers → Outside → Sights → Outside → Sights → Result T FilesStop → Disk → Disk → Type 0
 Records P step numbers old s new t result = λ before after. (u : Update) (events : List ChildEvent) (i : ℕ) (first : List LogLine) (reads : List Read) (members : List (List ℕ × Value)) → Distinguishes u after.past
     → IsToRecord u (events ++ Done i true ∷ []) i step numbers members s.facts → HasEnded u events i true first reads before s
     → GoesOnWith u (events ++ Done i true ∷ []) first reads (λ x. P x × OthersStayNoted u (events ++ Done i true ∷ []) step before.now s.journal after.now t.journal) old new after t result
 
-if_too_big : (P Q : Type 0) (stop : Stop) → (P → Q) → IfTooBig P stop → IfTooBig Q stop
+if_too_big : (P Q : Type 0) (stop : FilesStop) → (P → Q) → IfTooBig P stop → IfTooBig Q stop
 if_too_big P Q stops.Host f p = tt
 if_too_big P Q stops.OutOfMemory f p = tt
 if_too_big P Q (stops.TooBig n size) f p = f p
 
 -- The step's files were asked for.
-module _ {T : Type 0} (step : Step) (numbers : StepNumbers) (x y : Outside) (s t : Sights) (r : Result T Stop) (asks : Asks (IsOfStep numbers) Always s.facts t.facts x y r) (unread : s.by_digest ≡ false → y.reads ≡ x.reads) (same : t.journal ≡ s.journal) (digests : t.by_digest ≡ s.by_digest) where
+module _ {T : Type 0} (step : Step) (numbers : StepNumbers) (x y : Outside) (s t : Sights) (r : Result T FilesStop) (asks : Asks (IsOfStep numbers) Always s.facts t.facts x y r) (unread : s.by_digest ≡ false → y.reads ≡ x.reads) (same : t.journal ≡ s.journal) (digests : t.by_digest ≡ s.by_digest) where
   pub record_under : (disk : Disk) → x.disk ≡ Some disk → (u : Update) (events : List ChildEvent) (i : ℕ) (first : List LogLine) (reads : List Read) (members : List (List ℕ × Value)) → IsToRecord u (events ++ Done i true ∷ []) i step numbers members s.facts → HasEnded u events i true first reads disk s
       → (more : List Read) × AddsReads more x.reads y.reads × HasEnded u events i true first (reads ++ more) disk t
   record_under disk here u events i first reads members to w =
@@ -60,7 +60,7 @@ module _ {T : Type 0} (step : Step) (numbers : StepNumbers) (x y : Outside) (s t
   record_to disk u events i first reads members w to = to_record_grows u events i first step numbers members s.facts t.facts (needed_later u events i first step numbers members reads disk s w) (asks.learns.learns u.build.steps u.build.roots) to
 
 -- work on the record stopped
-pub record_stopped : {S : Type 0} (P : S → Type 0) (step : Step) (numbers : StepNumbers) (x y : Outside) (s t : Sights) (stop : Stop) → Asks {T = Option Record} (IsOfStep numbers) Always s.facts t.facts x y (Err stop) → (s.by_digest ≡ false → y.reads ≡ x.reads) → IfTooBig (s.by_digest ≡ true) stop
+pub record_stopped : {S : Type 0} (P : S → Type 0) (step : Step) (numbers : StepNumbers) (x y : Outside) (s t : Sights) (stop : FilesStop) → Asks {T = Option Record} (IsOfStep numbers) Always s.facts t.facts x y (Err stop) → (s.by_digest ≡ false → y.reads ≡ x.reads) → IfTooBig (s.by_digest ≡ true) stop
     → t.journal ≡ s.journal → t.by_digest ≡ s.by_digest → RecordTold {T = S} P step numbers x s y t (Err stop)
 record_stopped {S} P step numbers x y s t stop asks unread only same digests = both_same (Records {T = S} P step numbers x s y t (Err stop)) x.disk y.disk asks.effect.files (λ disk here u events i first reads members distinct to w.
     let (more, adds, later) = record_under {T = Option Record} step numbers x y s t (Err stop) asks unread same digests disk here u events i first reads members to w in

@@ -16,7 +16,7 @@ use Rattle.b2_sched.specs.declared.state.State.{State}
 use Rattle.b2_sched.specs.declared.state.State.TheVariants as states
 use Rattle.b2_sched.specs.NumberSets.{Has}
 use Rattle.b2_sched.specs.Schedules.{Schedule, state_of, IsStale, IsRunning, IsSettled, is_running, running}
-use Rattle.b2_sched.specs.Calls.{with_start}
+use Rattle.b2_sched.specs.SchedulerCalls.{with_start}
 use Rattle.b2_sched.proofs.ChangesKeepTheInvariant.{running_change}
 use Rattle.b2_facts.specs.declared.file_facts.FileFacts.{FileFacts}
 use Rattle.b2_facts.specs.Facts.{Knowledge, IsNumber, IsAbout, path_at, file_at, with_file}

@@ -22,7 +22,7 @@ use Rattle.b2_runs.specs.LogCourses.{IsLogAfter.owes_none as after_owes_none}
 use Rattle.b2_runs.proofs.NumberHasOneStep.{one_step}
 use Rattle.b2_runs.proofs.RunGoesOn.{run_goes_on}
 use Rattle.b2_sched.specs.Schedules.{IsRunning}
-use Rattle.b2_facts.specs.declared.stop.Stop.{Stop}
+use Rattle.b2_facts.specs.declared.stop.FilesStop.{FilesStop}
 use Rattle.b2_facts.specs.Facts.{Knowledge, IsNumber, IsAbout}
 use Rattle.b2_facts.specs.Growth.{Grows, IncludesStay, Learns}
 use Rattle.b2_facts.proofs.ListsAtPlaces.{some_is, none_some}
@@ -31,7 +31,7 @@ use Rattle.b2_reach.proofs.GrowthComposes.{both_same}
 use Rattle.b2_verdicts.specs.declared.step_numbers.StepNumbers.{StepNumbers}
 use Rattle.b2_verdicts.specs.Sights.{AreNumbers}
 use Rattle.b2_verdicts.specs.Made.{AreRising}
-use Rattle.b2_verdicts.specs.Calls.{IsOfStep}
+use Rattle.b2_verdicts.specs.VerdictCalls.{IsOfStep}
 use Rattle.b2_verdicts.specs.Cases.{AreNumbersOf}
 use Rattle.b2_looks.specs.declared.looks.Looks.{Looks}
 use Rattle.b2_looks.specs.Numbers.{AreFilesOf}
@@ -94,14 +94,14 @@ not_outputs : (steps : List Step) (i : ℕ) (step : Step) (disk : Option Disk) �
 not_outputs steps i step None at told = tt
 not_outputs steps i step (Some d) at not_all = λ stand. not_all (λ path among none. stand step path at among none)
 
-pub missed_made : (steps : List Step) (i : ℕ) (step : Step) (disk : Option Disk) (r : Result Bool Stop) → step_at steps i ≡ Some step → IfOk r (λ left. left ≡ false → IfSome disk (λ d. AllStand step.outs d → ⊥)) → IfOk r (λ left. left ≡ false → IfSome disk (λ d. OutputsStand steps i d → ⊥))
+pub missed_made : (steps : List Step) (i : ℕ) (step : Step) (disk : Option Disk) (r : Result Bool FilesStop) → step_at steps i ≡ Some step → IfOk r (λ left. left ≡ false → IfSome disk (λ d. AllStand step.outs d → ⊥)) → IfOk r (λ left. left ≡ false → IfSome disk (λ d. OutputsStand steps i d → ⊥))
 missed_made steps i step disk (Ok left) at told = λ off. not_outputs steps i step disk at (told off)
 missed_made steps i step disk (Err stop) at told = tt
 
 -- ---- over a host whose files are visible
 
 -- what is told of disks
-abbrev IsMadeTold : Plan → Looks → ℕ → Outside → Sights → Outside → Sights → Result Bool Stop → Disk → Disk → Type 0
+abbrev IsMadeTold : Plan → Looks → ℕ → Outside → Sights → Outside → Sights → Result Bool FilesStop → Disk → Disk → Type 0
 IsMadeTold plan l i old s new t result = λ before after. (u : Update) (events : List ChildEvent) (first : List LogLine) (reads : List Read) → IsUpdateBy plan l u → Distinguishes u after.past
     → HasEnded u events i true first reads before s → AreTrueLooks u (events ++ Done i true ∷ []) before s l
     → EndGoesOn u (events ++ Done i true ∷ []) first reads (λ left. left ≡ true) old new after l t result
@@ -115,14 +115,14 @@ module _ (plan : Plan) (l : Looks) (i : ℕ) (step : Step) (numbers : StepNumber
       let same : h.step ≡ step = one_step u.build.steps i h.step step h.at here in
       (h.members, record { at = here; owes = owes; closure = subst (λ z. IsClosure u.build (on_settled u events) z h.members) same h.closure; named = subst (λ z. AreNumbersOf z h.members s.facts numbers) same h.named })
 
-  goes_on : (u : Update) (events : List ChildEvent) (first : List LogLine) (reads : List Read) (before after : Disk) (s v : Sights) (r : Result Bool Stop) → Apart u.build.steps u.build.roots → step_at u.build.steps i ≡ Some step → Contains events (Start i) → Grows s.facts v.facts → AreTrueLooks u events before s l
+  goes_on : (u : Update) (events : List ChildEvent) (first : List LogLine) (reads : List Read) (before after : Disk) (s v : Sights) (r : Result Bool FilesStop) → Apart u.build.steps u.build.roots → step_at u.build.steps i ≡ Some step → Contains events (Start i) → Grows s.facts v.facts → AreTrueLooks u events before s l
       → MatchResult r (λ left. ((left ≡ true) × OthersStayNoted u events step before.now s.journal after.now v.journal) × IsUnderWay u events first reads after v) (λ stop. IsHalted u events reads after v.facts stop)
       → MatchResult r (λ left. (left ≡ true) × IsUnderWay u events first reads after v × AreTrueLooks u events after v l) (λ stop. IsHalted u events reads after v.facts stop)
   goes_on u events first reads before after s v (Ok left) apart here started grows is ((made, others), w) = (made, w, looks_stay_true u events i step before after s v l apart here started grows others is)
   goes_on u events first reads before after s v (Err stop) apart here started grows is h = h
 
   -- what is told of the record is told of the step
-  pub made_told : (x z : Outside) (s v : Sights) (r : Result Bool Stop) → step.notfile ≡ false → IsRunning l.board.sched i → ready_at l i ≡ Some numbers → Grows s.facts v.facts → RecordTold {T = Bool} (λ left. left ≡ true) step numbers x s z v r → MadeTold plan l i x s z v r
+  pub made_told : (x z : Outside) (s v : Sights) (r : Result Bool FilesStop) → step.notfile ≡ false → IsRunning l.board.sched i → ready_at l i ≡ Some numbers → Grows s.facts v.facts → RecordTold {T = Bool} (λ left. left ≡ true) step numbers x s z v r → MadeTold plan l i x s z v r
   made_told x z s v r owes runs kept grows told = both_map (Records {T = Bool} (λ left. left ≡ true) step numbers x s z v r) (IsMadeTold plan l i x s z v r) x.disk z.disk told (λ before after told_of u events first reads by distinct w is.
       let later = events ++ Done i true ∷ [] in
       let (members, to) = to_record u later before s by owes runs kept is in

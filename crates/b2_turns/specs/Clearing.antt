@@ -15,7 +15,7 @@ use Rattle.b2_plan.specs.Plans.{step_at}
 use Rattle.b2_log.specs.declared.line.LogLine.{LogLine}
 use Rattle.b2_runs.specs.Staleness.{Update}
 use Rattle.b2_runs.specs.Soundness.{Distinguishes}
-use Rattle.b2_facts.specs.declared.stop.Stop.{Stop}
+use Rattle.b2_facts.specs.declared.stop.FilesStop.{FilesStop}
 use Rattle.b2_facts.specs.Stops.{StopTold}
 use Rattle.b2_reach.specs.declared.sights.Sights.{Sights}
 use Rattle.b2_looks.specs.UnderWay.{IsUnderWay, IsHalted}
@@ -48,7 +48,7 @@ pub record RemovesFiles {T : Type 0} (outs : List (List ℕ)) (before after : Ou
 
 -- What noting the drop of a failed step tells, after its outputs were removed: the update is under way, and the records of
 -- other steps stay.
-abbrev pub DropTold : {T : Type 0} → Step → Outside → Sights → Outside → Sights → Result T Stop → Type 0
+abbrev pub DropTold : {T : Type 0} → Step → Outside → Sights → Outside → Sights → Result T FilesStop → Type 0
 DropTold step old s new t result = BothTold (λ before after. (u : Update) (events : List ChildEvent) (i : ℕ)
     (first : List LogLine) (reads : List Read) → Distinguishes u after.past → step_at u.build.steps i ≡ Some step
     → HasEnded u events i false first reads before s
@@ -60,7 +60,7 @@ DropTold step old s new t result = BothTold (λ before after. (u : Update) (even
 -- A drop is noted where the log has a record: nothing changed but the log's file and the count of faults, which tells
 -- whether the host failed.
 pub record NotesDrop {T : Type 0} (step : Step) (x : Outside) (s : Sights) (y : Outside) (t : Sights)
-    (result : Result T Stop) : Type 0 where
+    (result : Result T FilesStop) : Type 0 where
   pub facts : t.facts ≡ s.facts
   pub way : t.by_digest ≡ s.by_digest
   pub only_log : ChangesOnlyLog x y

@@ -21,8 +21,8 @@ use Rattle.b2_runs.specs.Runs.{MayCome, IsRunSoFar}
 use Rattle.b2_runs.specs.Soundness.{Distinguishes, IsSound, IsAllowedChange}
 use Rattle.b2_runs.specs.FileReads.{ReadsOnce, ReadsLeaveLines, HaveLines}
 use Rattle.b2_runs.specs.LogCourses.{BeginsWith, IsLogAfter, LacksNoLine, log_file}
-use Rattle.b2_sched.specs.Calls.{Settles, with_failure}
-use Rattle.b2_facts.specs.declared.stop.Stop.{Stop}
+use Rattle.b2_sched.specs.SchedulerCalls.{Settles, with_failure}
+use Rattle.b2_facts.specs.declared.stop.FilesStop.{FilesStop}
 use Rattle.b2_facts.specs.Stops.{StopTold}
 use Rattle.b2_journal.specs.Notes.{HasLines}
 use Rattle.b2_reach.specs.declared.sights.Sights.{Sights}
@@ -44,7 +44,7 @@ pub record Finishes (i : ℕ) (well : Bool) (l k : Looks) : Type 0 where
 
 -- Files were removed, and perhaps a line was appended to the log: nothing changed but files and the count of faults, which
 -- tells whether the host failed.
-pub record Clears {T : Type 0} (before after : Outside) (result : Result T Stop) : Type 0 where
+pub record Clears {T : Type 0} (before after : Outside) (result : Result T FilesStop) : Type 0 where
   pub children : after.children ≡ before.children
   pub reads : after.reads ≡ before.reads
   pub failed_waits : after.failed_waits ≡ before.failed_waits
@@ -92,7 +92,7 @@ pub record HasEnded (u : Update) (events : List ChildEvent) (i : ℕ) (well : Bo
 
 -- after a call an update is under way after these events, with more reads, and P holds of the result; or it has stopped
 pub record EndGoesOn {T : Type 0} (u : Update) (events : List ChildEvent) (first : List LogLine) (reads : List Read)
-    (P : T → Type 0) (old new : Outside) (disk : Disk) (l : Looks) (t : Sights) (result : Result T Stop) : Type 0 where
+    (P : T → Type 0) (old new : Outside) (disk : Disk) (l : Looks) (t : Sights) (result : Result T FilesStop) : Type 0 where
   pub more : List Read
   pub adds : AddsReads more old.reads new.reads
   pub after : MatchResult result
@@ -100,7 +100,7 @@ pub record EndGoesOn {T : Type 0} (u : Update) (events : List ChildEvent) (first
       (λ stop. IsHalted u events (reads ++ more) disk t.facts stop)
 
 -- what noting the record of a step tells that ended well: it left each output
-abbrev pub MadeTold : Plan → Looks → ℕ → Outside → Sights → Outside → Sights → Result Bool Stop → Type 0
+abbrev pub MadeTold : Plan → Looks → ℕ → Outside → Sights → Outside → Sights → Result Bool FilesStop → Type 0
 MadeTold plan l i old s new t result = BothTold (λ before after. (u : Update) (events : List ChildEvent)
     (first : List LogLine) (reads : List Read) → IsUpdateBy plan l u → Distinguishes u after.past
     → HasEnded u events i true first reads before s → AreTrueLooks u (events ++ Done i true ∷ []) before s l
@@ -112,7 +112,7 @@ abbrev pub OutputsGone : List Step → ℕ → Disk → Type 0
 OutputsGone steps i disk = (step : Step) (path : List ℕ) → Makes steps i step path → disk.now path ≡ None
 
 -- What clearing away a failed step tells: its outputs are gone, and nothing else changed but the log.
-abbrev pub ClearTold : Plan → Looks → ℕ → Outside → Sights → Outside → Sights → Result (Unit {0}) Stop → Type 0
+abbrev pub ClearTold : Plan → Looks → ℕ → Outside → Sights → Outside → Sights → Result (Unit {0}) FilesStop → Type 0
 ClearTold plan l i old s new t result = BothTold (λ before after. (u : Update) (events : List ChildEvent)
     (first : List LogLine) (reads : List Read) → IsUpdateBy plan l u → Distinguishes u after.past
     → HasEnded u events i false first reads before s → AreTrueLooks u (events ++ Done i false ∷ []) before s l

@@ -11,7 +11,7 @@ use Rattle.b2_log.specs.declared.line.LogLine.{LogLine}
 use Rattle.b2_runs.specs.Staleness.{Update}
 use Rattle.b2_runs.specs.Runs.{on_settled}
 use Rattle.b2_runs.specs.Soundness.{Distinguishes}
-use Rattle.b2_facts.specs.declared.stop.Stop.{Stop}
+use Rattle.b2_facts.specs.declared.stop.FilesStop.{FilesStop}
 use Rattle.b2_facts.specs.Facts.{Knowledge}
 use Rattle.b2_reach.specs.declared.sights.Sights.{Sights}
 use Rattle.b2_verdicts.specs.declared.step_numbers.StepNumbers.{StepNumbers}
@@ -30,7 +30,7 @@ pub record IsToRecord (u : Update) (events : List ChildEvent) (number : ℕ) (st
 
 -- What appending the record of a step tells that ended well: the records of the other steps stay, and P holds of the result.
 abbrev pub RecordTold : {T : Type 0} → (T → Type 0) → Step → StepNumbers → Outside → Sights → Outside → Sights
-    → Result T Stop → Type 0
+    → Result T FilesStop → Type 0
 RecordTold P step numbers old s new t result = BothTold (λ before after. (u : Update) (events : List ChildEvent) (i : ℕ)
     (first : List LogLine) (reads : List Read) (members : List (List ℕ × Value)) → Distinguishes u after.past
     → IsToRecord u (events ++ Done i true ∷ []) i step numbers members s.facts

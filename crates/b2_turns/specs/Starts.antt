@@ -4,9 +4,9 @@ use Rattle.std.specs.List.{Contains}
 use Rattle.b2_sched.specs.declared.state.State.{State}
 use Rattle.b2_sched.specs.declared.state.State.TheVariants.{Unjudged, Stale, Running, Settled, Failed}
 use Rattle.b2_sched.specs.Schedules.{Schedule, state_of}
-use Rattle.b2_sched.specs.Calls.{with_start}
+use Rattle.b2_sched.specs.SchedulerCalls.{with_start}
 use Rattle.b2_facts.specs.declared.file_facts.FileFacts.{FileFacts}
-use Rattle.b2_facts.specs.declared.file_facts.Seen.TheVariants as seen
+use Rattle.b2_facts.specs.declared.file_facts.FileLook.TheVariants as seen
 use Rattle.b2_facts.specs.Facts.{Knowledge, file_at}
 use Rattle.b2_reach.specs.declared.sights.Sights.{Sights}
 use Rattle.b2_verdicts.specs.declared.step_numbers.StepNumbers.{StepNumbers}

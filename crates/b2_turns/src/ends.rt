@@ -15,7 +15,7 @@ ghost use Rattle.b2_facts.specs.Growth.{IncludesStay};
 ghost use Rattle.b2_facts.specs.Stops.{StopTold};
 ghost use Rattle.b2_verdicts.specs.Sights.{AreNumbers};
 ghost use Rattle.b2_verdicts.specs.Made.{AreRising};
-ghost use Rattle.b2_verdicts.specs.Calls.{IsOfStep};
+ghost use Rattle.b2_verdicts.specs.VerdictCalls.{IsOfStep};
 ghost use Rattle.b2_looks.specs.Looks.{AreLooks, Follows, LooksAtFiles};
 ghost use Rattle.b2_turns.specs.Clearing.{AreGone, RemovesFiles, NotesDrop};
 ghost use Rattle.b2_turns.specs.Ends.{Finishes, Clears, StandsNoMore, AllStand, OutputsStand, MadeTold, ClearTold};
@@ -24,7 +24,7 @@ ghost use Rattle.b2_turns.specs.Recording.{RecordTold};
 use b2_base::path::Path;
 use b2_base::path_list::copy_paths;
 use b2_board::steps::step_of;
-use b2_facts::stop::Stop;
+use b2_facts::stop::FilesStop;
 use b2_host::fault::Failed;
 use b2_host::files::Files;
 use b2_log::line::LogLine;
@@ -57,7 +57,7 @@ fn note_record<F: Files>(
     numbers: &StepNumbers,
     sights: &mut Sights,
     files: &mut F,
-) -> Result<(), Stop>
+) -> Result<(), FilesStop>
     requires outs { AreNumbers sights.old.facts numbers.now.outs }
     requires ins { AreNumbers sights.old.facts numbers.now.ins }
     requires some_out { 0 < length numbers.now.outs }
@@ -85,7 +85,7 @@ fn note_left<F: Files>(
     numbers: &StepNumbers,
     sights: &mut Sights,
     files: &mut F,
-) -> Result<bool, Stop>
+) -> Result<bool, FilesStop>
     requires outs { AreNumbers sights.old.facts numbers.now.outs }
     requires ins { AreNumbers sights.old.facts numbers.now.ins }
     requires some_out { 0 < length numbers.now.outs }
@@ -117,7 +117,7 @@ pub fn note_made<F: Files>(
     sights: &mut Sights,
     files: &mut F,
     number: u32,
-) -> Result<bool, Stop>
+) -> Result<bool, FilesStop>
     requires apart { Apart plan.now.steps plan.now.roots }
     requires about { IsAbout plan.now.steps plan.now.roots sights.old.facts }
     requires looks { AreLooks plan.now 0 sights.old.facts looks.now }
@@ -162,7 +162,7 @@ fn note_drop<F: Files>(
     step: &Step,
     sights: &mut Sights,
     files: &mut F,
-) -> Result<(), Stop>
+) -> Result<(), FilesStop>
     ensures { NotesDrop step.now (F.outside files.old) sights.old (F.outside files.new) sights.new result }
 {
     if sights.journal.record(step.outs.as_slice()).is_none() {
@@ -182,7 +182,7 @@ pub fn clear_failed<F: Files>(
     sights: &mut Sights,
     files: &mut F,
     number: u32,
-) -> Result<(), Stop>
+) -> Result<(), FilesStop>
     requires step { (step : Step) × (step_at plan.now.steps number ≡ Some step) }
     ensures clears { Clears (F.outside files.old) (F.outside files.new) result }
     ensures fewer { BothTold StandsNoMore (F.outside files.old).disk (F.outside files.new).disk }

@@ -5,7 +5,7 @@ ghost use Rattle.std.specs.List.{Contains};
 ghost use Rattle.b2_host.specs.declared.children.ChildEvent.{ChildEvent};
 ghost use Rattle.b2_host.specs.declared.children.ChildEvent.TheVariants.{Start};
 ghost use Rattle.b2_plan.specs.Plans.{Apart};
-ghost use Rattle.b2_sched.specs.Calls.{StartsNext, StartsNone};
+ghost use Rattle.b2_sched.specs.SchedulerCalls.{StartsNext, StartsNone};
 ghost use Rattle.b2_facts.specs.declared.file_facts.FileFacts.{FileFacts};
 ghost use Rattle.b2_facts.specs.Facts.{IsNumber, IsAbout, file_at};
 ghost use Rattle.b2_verdicts.specs.declared.step_numbers.StepNumbers.{StepNumbers};

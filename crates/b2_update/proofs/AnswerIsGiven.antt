@@ -20,10 +20,10 @@ use Rattle.b2_runs.proofs.FirstElementOrLater.{Contains_nil}
 use Rattle.b2_runs.proofs.RunIsInOrder.{order_goes_on}
 use Rattle.b2_drain.specs.Drains.{AllWaited, Drains}
 use Rattle.b2_drain.proofs.WaitsAddUp.{no_wait}
-use Rattle.b2_facts.specs.declared.stop.Stop.TheVariants as files
+use Rattle.b2_facts.specs.declared.stop.FilesStop.TheVariants as files
 use Rattle.b2_facts.specs.Facts.{Knowledge}
-use Rattle.b2_update.specs.declared.stop.Stop.{Stop}
-use Rattle.b2_update.specs.declared.stop.Stop.TheVariants as stops
+use Rattle.b2_update.specs.declared.stop.UpdateStop.{UpdateStop}
+use Rattle.b2_update.specs.declared.stop.UpdateStop.TheVariants as stops
 use Rattle.b2_update.specs.declared.update_answer.UpdateAnswer.{UpdateAnswer}
 use Rattle.b2_update.specs.Answers.{answer_of}
 use Rattle.b2_update.specs.Stops.{StopCausedBy}
@@ -85,7 +85,7 @@ names_none host_fault e = refl
 names_none sink_fault e = refl
 names_none out_of_memory e = refl
 
-answer_is_fault : (f : Knowledge) (stop : Stop) (all : Bool) (answer : UpdateAnswer) → IsStopAnswer f stop all answer → is_fault (answer_of answer) ≡ true
+answer_is_fault : (f : Knowledge) (stop : UpdateStop) (all : Bool) (answer : UpdateAnswer) → IsStopAnswer f stop all answer → is_fault (answer_of answer) ≡ true
 answer_is_fault f (stops.Files files.Host) all answer is = ap (λ a. is_fault (answer_of a)) is
 answer_is_fault f (stops.Files files.OutOfMemory) all answer is = ap (λ a. is_fault (answer_of a)) is
 answer_is_fault f (stops.Files (files.TooBig number size)) true answer is = elim is [ inl memory ↦ ap (λ a. is_fault (answer_of a)) memory | inr big ↦ ap (λ a. is_fault (answer_of a)) big.2 ]
@@ -100,7 +100,7 @@ in_order_through steps jobs events (Done i well ∷ ends) order opened =
     subst (AreInOrder steps jobs) (append_assoc events (Done i well ∷ []) ends)
     (in_order_through steps jobs (events ++ Done i well ∷ []) ends (order_goes_on steps jobs events (Done i well) order opened.0) opened.1)
 
-module _ (plan : Plan) (jobs count : ℕ) (entry mid : Moment) (after : Outside) (stop : Stop) (halts : Halts plan jobs count entry mid stop) (rest : ℕ) (drains : Drains rest mid.host after) where
+module _ (plan : Plan) (jobs count : ℕ) (entry mid : Moment) (after : Outside) (stop : UpdateStop) (halts : Halts plan jobs count entry mid stop) (rest : ℕ) (drains : Drains rest mid.host after) where
   abbrev here : Moment
   here = record { host = after; out = mid.out }
 
@@ -124,7 +124,7 @@ module _ (plan : Plan) (jobs count : ℕ) (entry mid : Moment) (after : Outside)
   called : CallFailed entry.host mid.host → CallFailed entry.host after
   called failed = record { may = failed.may; faults = rose_then entry.host.faults mid.host.faults after.faults failed.faults drains.keeps.faults }
 
-  caused : (f : Knowledge) (all : Bool) (answer : UpdateAnswer) (s : Stop) → StopCausedBy entry mid s → IsStopAnswer f s all answer → IsQuietHost mid.host after
+  caused : (f : Knowledge) (all : Bool) (answer : UpdateAnswer) (s : UpdateStop) → StopCausedBy entry mid s → IsStopAnswer f s all answer → IsQuietHost mid.host after
       → (all ≡ true → AllWaited rest mid.host after) → (all ≡ false → WaitFailed mid.host after × (mid.host.risks.may_fail ≡ true)) → CausedBy entry here (answer_of answer)
   caused f all answer (stops.Files files.Host) (failed, same) is quiet waited missed = subst (λ a. CausedBy entry here (answer_of a)) (sym is) (called failed, same)
   caused f all answer (stops.Files files.OutOfMemory) stay is quiet waited missed = subst (λ a. CausedBy entry here (answer_of a)) (sym is) (stay.sink, quiet_since stay.host stay.waits quiet)
@@ -221,7 +221,7 @@ rest_is count entry mid (inr (failed, once, more)) = (1, more, inr (failed, once
 
 -- ---- an update that has stopped before any event
 
-pub begin_is_answered : (plan : Plan) (jobs : ℕ) (entry here : Moment) (f : Knowledge) (stop : Stop) (answer : UpdateAnswer) → Halts plan jobs 0 entry here stop → here.host.children.running ≡ []
+pub begin_is_answered : (plan : Plan) (jobs : ℕ) (entry here : Moment) (f : Knowledge) (stop : UpdateStop) (answer : UpdateAnswer) → Halts plan jobs 0 entry here stop → here.host.children.running ≡ []
     → IsStopAnswer f stop true answer → IsAnswered plan jobs entry here answer
 begin_is_answered plan jobs entry here f stop answer halts idle is =
     let none : length here.host.children.running ≡ 0 = ap (λ (l : List Child). length l) idle in

@@ -21,16 +21,16 @@ use Rattle.b2_runs.proofs.FirstElementOrLater.{Contains_nil}
 use Rattle.b2_sched.specs.Schedules.{IsFailed}
 use Rattle.b2_endings.specs.declared.ending.Ending.{Ending}
 use Rattle.b2_endings.specs.declared.ending.Ending.TheVariants as endings
-use Rattle.b2_facts.specs.declared.stop.Stop.TheVariants as files
+use Rattle.b2_facts.specs.declared.stop.FilesStop.TheVariants as files
 use Rattle.b2_endings.specs.declared.failed_lists.FailedLists.{FailedLists}
 use Rattle.b2_endings.specs.Writings.{Adds}
 use Rattle.b2_endings.specs.Endings.{lists_of, finished_by, answer_of_ending, IsEndingOf}
 use Rattle.b2_update.specs.declared.run.Run.{Run}
-use Rattle.b2_update.specs.declared.stop.Stop.{Stop}
+use Rattle.b2_update.specs.declared.stop.UpdateStop.{UpdateStop}
 use Rattle.b2_update.specs.declared.update_answer.UpdateAnswer.{UpdateAnswer}
 use Rattle.b2_update.specs.declared.update_answer.UpdateAnswer.TheVariants as answers
 use Rattle.b2_update.specs.Answers.{answer_of}
-use Rattle.b2_update.specs.declared.stop.Stop.TheVariants as stops
+use Rattle.b2_update.specs.declared.stop.UpdateStop.TheVariants as stops
 use Rattle.b2_update.specs.Stops.{SinkSays}
 use Rattle.b2_update.specs.Going.{IsGoing, Halts}
 use Rattle.b2_update.specs.Endings.{HasCome, EndingSays}
@@ -93,11 +93,11 @@ told_end steps updated (endings.StepCycle list) before after answer (is, same) =
   adds = writes_none before.written after.written (ap (λ (o : Output). o.written) same);
 }
   where
-    answer_in : UpdateAnswer → Result UpdateAnswer Stop → UpdateAnswer
+    answer_in : UpdateAnswer → Result UpdateAnswer UpdateStop → UpdateAnswer
     answer_in other (Ok x) = x
     answer_in other (Err stop) = other
 
-    ok_is : (x y : UpdateAnswer) → ◌≡◌ {A = Result UpdateAnswer Stop} (Ok x) (Ok y) → x ≡ y
+    ok_is : (x y : UpdateAnswer) → ◌≡◌ {A = Result UpdateAnswer UpdateStop} (Ok x) (Ok y) → x ≡ y
     ok_is x y e = ap (answer_in x) e
 told_end steps updated (endings.Ended lists) before after answer (is, written) = record {
   answer_is = is;
@@ -107,7 +107,7 @@ told_end steps updated (endings.Ended lists) before after answer (is, written) =
 }
 
 -- it could not be told: the sink failed, or no memory was left
-pub untold_end : (steps : List Step) (updated : ℕ) (ending : Ending) (before after : Output) (stop : Stop) → EndingSays steps updated ending before after (Err stop)
+pub untold_end : (steps : List Step) (updated : ℕ) (ending : Ending) (before after : Output) (stop : UpdateStop) → EndingSays steps updated ending before after (Err stop)
     → (lists : FailedLists) × (ending ≡ endings.Ended lists) × SinkSays {T = Unit {0}} (end_lines steps updated (lists_of lists)) before after (Err stop)
 untold_end steps updated (endings.StepCycle list) before after stop (is, same) = absurd (let f : false ≡ true = ap is_ok is in cc)
 untold_end steps updated (endings.Ended lists) before after stop says = (lists, refl, says)
@@ -151,7 +151,7 @@ module _ (plan : Plan) (entry here there : Moment) (run : Run) (going : IsGoing 
         named_failed = λ i among. named_bad ending is i (subst (λ (a : RunAnswer). Contains (failed_of a) i) told.answer_is among);
       }
 
-  pub untold_halts : (text : List ℕ) (stop : Stop) → SinkSays {T = Unit {0}} text here.out there.out (Err stop) → Halts plan run.looks.board.sched.jobs run.waits entry there stop
+  pub untold_halts : (text : List ℕ) (stop : UpdateStop) → SinkSays {T = Unit {0}} text here.out there.out (Err stop) → Halts plan run.looks.board.sched.jobs run.waits entry there stop
   untold_halts text (stops.Files files.Host) says = absurd says
   untold_halts text (stops.Files files.OutOfMemory) says = sink_halts plan entry here there run going text io.OutOfMemory host says
   untold_halts text (stops.Files (files.TooBig number size)) says = absurd says

@@ -20,8 +20,8 @@ use Rattle.b2_plan.specs.Plans.{step_at, Apart}
 use Rattle.b2_runs.specs.Moments.{Moment}
 use Rattle.b2_runs.specs.PlanChildren.{AreOfOpenSteps}
 use Rattle.b2_runs.specs.UpdateAnswers.{CountsStay}
-use Rattle.b2_facts.specs.declared.stop.Stop.{Stop as FilesStop}
-use Rattle.b2_facts.specs.declared.stop.Stop.TheVariants as files
+use Rattle.b2_facts.specs.declared.stop.FilesStop.{FilesStop}
+use Rattle.b2_facts.specs.declared.stop.FilesStop.TheVariants as files
 use Rattle.b2_facts.specs.Facts.{Knowledge, IsAbout}
 use Rattle.b2_facts.specs.Stops.{StopTold}
 use Rattle.b2_reach.specs.declared.sights.Sights.{Sights}
@@ -29,8 +29,8 @@ use Rattle.b2_looks.specs.Looks.{AreLooks}
 use Rattle.b2_turns.specs.Ends.{Clears, OutputsStand}
 use Rattle.b2_endings.specs.Writings.{Says}
 use Rattle.b2_update.specs.declared.run.Run.{Run}
-use Rattle.b2_update.specs.declared.stop.Stop.{Stop}
-use Rattle.b2_update.specs.declared.stop.Stop.TheVariants as stops
+use Rattle.b2_update.specs.declared.stop.UpdateStop.{UpdateStop}
+use Rattle.b2_update.specs.declared.stop.UpdateStop.TheVariants as stops
 use Rattle.b2_update.specs.Moments.{moment}
 use Rattle.b2_update.specs.Stops.{StopCausedBy, sink_stop_of}
 use Rattle.b2_update.specs.Going.{HasHappened, HasKept, HasHeard, EndsAs, Halts}
@@ -116,7 +116,7 @@ module _ (plan : Plan) (i : ℕ) (well : Bool) (entry : Moment) (x y : Outside) 
   }
 
   -- an update stops there
-  pub halts_settling : (stop : Stop) → StopCausedBy entry (moment y p) stop → Halts plan run.looks.board.sched.jobs run.waits entry (moment y p) stop
+  pub halts_settling : (stop : UpdateStop) → StopCausedBy entry (moment y p) stop → Halts plan run.looks.board.sched.jobs run.waits entry (moment y p) stop
   halts_settling stop caused = record {
     events = h.before ++ Done i well ∷ [];
     short = h.short;
@@ -131,24 +131,24 @@ module _ (plan : Plan) (i : ℕ) (well : Bool) (entry : Moment) (x y : Outside) 
 
 module _ (plan : Plan) (i : ℕ) (well : Bool) (entry after : Moment) (later : Run) where
   -- what settling promises of its result, and what failing does
-  abbrev Settled : Result Bool Stop → Type 0
+  abbrev Settled : Result Bool UpdateStop → Type 0
   Settled r = MatchResult r (λ updated. EndsAs plan i well entry updated × HasHeard plan i well entry after later) (Halts plan later.looks.board.sched.jobs later.waits entry after)
 
-  abbrev pub HasFailed : Result Bool Stop → Type 0
+  abbrev pub HasFailed : Result Bool UpdateStop → Type 0
   HasFailed r = MatchResult r (λ updated. HasHeard plan i well entry after later) (Halts plan later.looks.board.sched.jobs later.waits entry after)
 
-  pub settle_stops : (r : Result Bool Stop) (stop : Stop) → r ≡ Err stop → Halts plan later.looks.board.sched.jobs later.waits entry after stop → Settled r
+  pub settle_stops : (r : Result Bool UpdateStop) (stop : UpdateStop) → r ≡ Err stop → Halts plan later.looks.board.sched.jobs later.waits entry after stop → Settled r
   settle_stops r stop e halts = subst Settled (sym e) halts
 
-  pub fail_stops : (r : Result Bool Stop) (stop : Stop) → r ≡ Err stop → Halts plan later.looks.board.sched.jobs later.waits entry after stop → HasFailed r
+  pub fail_stops : (r : Result Bool UpdateStop) (stop : UpdateStop) → r ≡ Err stop → Halts plan later.looks.board.sched.jobs later.waits entry after stop → HasFailed r
   fail_stops r stop e halts = subst HasFailed (sym e) halts
 
   -- a step that has failed is settled so
-  pub failed_so : (r : Result Bool Stop) → EndsAs plan i well entry false → IfOk r (λ updated. updated ≡ false) → HasFailed r → Settled r
+  pub failed_so : (r : Result Bool UpdateStop) → EndsAs plan i well entry false → IfOk r (λ updated. updated ≡ false) → HasFailed r → Settled r
   failed_so (Ok updated) ends bad failed = (subst (EndsAs plan i well entry) (sym bad) ends, failed)
   failed_so (Err stop) ends bad failed = failed
 
-  pub kept_by_failing : (r : Result Bool Stop) → HasFailed r → Keeps entry.host after.host
+  pub kept_by_failing : (r : Result Bool UpdateStop) → HasFailed r → Keeps entry.host after.host
   kept_by_failing (Ok updated) failed = failed.kept.host
   kept_by_failing (Err stop) failed = failed.kept.host
 

@@ -24,7 +24,7 @@ use Rattle.b2_sched.specs.Schedules.{Schedule, state_of, IsRunning}
 use Rattle.b2_looks.specs.declared.looks.Looks.{Looks}
 use Rattle.b2_looks.specs.Looks.{AreLooks, Follows}
 use Rattle.b2_looks.proofs.LooksAreKept.{settled_not, state_else}
-use Rattle.b2_verdicts.specs.declared.way.Way.{Way}
+use Rattle.b2_verdicts.specs.declared.judging_mode.JudgingMode.{JudgingMode}
 use Rattle.b2_turns.specs.Starts.{is_settled, settles}
 use Rattle.b2_turns.specs.Ends.{Finishes}
 use Rattle.b2_update.specs.declared.run.Run.{Run}
@@ -189,7 +189,7 @@ module _ (plan : Plan) (i : ℕ) (well updated : Bool) (entry here : Moment) (ru
     planned = record {
       about = h.planned.about;
       looks = looks;
-      way = h.planned.way ∙ ap (λ (w : Way). w.by_digest) (sym is.way);
+      way = h.planned.way ∙ ap (λ (w : JudgingMode). w.by_digest) (sym is.way);
       planned = children_then i updated run.looks k is h.runs plan h.before well here.host.children.running h.happened.of_open h.planned.planned;
       waits = h.planned.waits;
       given = h.planned.given;

@@ -17,7 +17,7 @@ use Rattle.b2_runs.proofs.FirstElementOrLater.{Contains_nil}
 use Rattle.b2_sched.specs.Sound.{IsSound}
 use Rattle.b2_sched.proofs.StartsAgreeWithTheRun.{none_joins}
 use Rattle.b2_drain.specs.Drains.{Made}
-use Rattle.b2_facts.specs.declared.stop.Stop.TheVariants as files
+use Rattle.b2_facts.specs.declared.stop.FilesStop.TheVariants as files
 use Rattle.b2_facts.specs.Facts.{Knowledge}
 use Rattle.b2_looks.specs.Looks.{AreLooks}
 use Rattle.b2_turns.specs.AtRest.{IsToldAtRest}
@@ -29,8 +29,8 @@ use Rattle.b2_endings.specs.Writings.{Adds}
 use Rattle.b2_endings.specs.Endings.{lists_of, finished_by, answer_of_ending, EndingIsTrue}
 use Rattle.b2_endings.proofs.EndingIsAnswered.{ending_is_answer}
 use Rattle.b2_update.specs.declared.run.Run.{Run}
-use Rattle.b2_update.specs.declared.stop.Stop.{Stop}
-use Rattle.b2_update.specs.declared.stop.Stop.TheVariants as stops
+use Rattle.b2_update.specs.declared.stop.UpdateStop.{UpdateStop}
+use Rattle.b2_update.specs.declared.stop.UpdateStop.TheVariants as stops
 use Rattle.b2_update.specs.declared.update_answer.UpdateAnswer.{UpdateAnswer}
 use Rattle.b2_update.specs.Stops.{SinkSays}
 use Rattle.b2_update.specs.Going.{Rests, NoneStarts}
@@ -112,14 +112,14 @@ module _ (plan : Plan) (made : Made) (here there : Moment) (run : Run) (sound : 
     lines = refl;
   }
 
-  halted : (f : Knowledge) (stop : Stop) (lists : FailedLists) (part rest : List ℕ) → end_lines u.build.steps run.updated (lists_of lists) ≡ part ++ rest → Adds part here.out.written there.out.written
+  halted : (f : Knowledge) (stop : UpdateStop) (lists : FailedLists) (part rest : List ℕ) → end_lines u.build.steps run.updated (lists_of lists) ≡ part ++ rest → Adds part here.out.written there.out.written
       → StopWritten u events disk.now stop (event_lines u.build.steps events ++ part) → StopTooBig u events disk.now f stop → HasHalted u entry there f disk stop
   halted f stop lists part rest whole adds written too_big =
       run_halts u entry there events r.stands.first r.stands.reads disk run.sights f stop (event_lines u.build.steps events ++ part) (ran_still u entry here there events disk.now r.stands.ran children)
       (subst (AddsReads r.stands.reads entry.host.reads) (sym (ap (λ (o : Outside). o.reads) host)) r.stands.reads_are) r.stands.under_way
       (adds_both (event_lines u.build.steps events) part entry.out.written here.out.written there.out.written r.stands.written adds) written too_big
 
-  pub untold_in_run : (f : Knowledge) (lists : FailedLists) (stop : Stop) → EndingIsTrue u events (endings.Ended lists)
+  pub untold_in_run : (f : Knowledge) (lists : FailedLists) (stop : UpdateStop) → EndingIsTrue u events (endings.Ended lists)
       → SinkSays {T = Unit {0}} (end_lines u.build.steps run.updated (lists_of lists)) here.out there.out (Err stop) → HasHalted u entry there f disk stop
   untold_in_run f lists (stops.Files files.Host) is says = absurd says
   untold_in_run f lists (stops.Files files.OutOfMemory) is (same, part, may) = halted f (stops.Files files.OutOfMemory) lists part.part part.rest part.whole part.adds (inr (inr (stops_at_end lists is part.part part.rest part.whole))) tt

@@ -14,15 +14,15 @@ use Rattle.b2_runs.specs.Moments.{Moment}
 use Rattle.b2_runs.specs.Soundness.{Distinguishes}
 use Rattle.b2_sched.specs.Sound.{IsSound}
 use Rattle.b2_drain.specs.Drains.{Made}
-use Rattle.b2_facts.specs.declared.stop.Stop.{Stop as FilesStop}
-use Rattle.b2_facts.specs.declared.stop.Stop.TheVariants as files
+use Rattle.b2_facts.specs.declared.stop.FilesStop.{FilesStop}
+use Rattle.b2_facts.specs.declared.stop.FilesStop.TheVariants as files
 use Rattle.b2_looks.specs.Looks.{AreLooks}
 use Rattle.b2_reach.specs.declared.sights.Sights.{Sights}
 use Rattle.b2_endings.specs.declared.ending.Ending.{Ending}
 use Rattle.b2_endings.specs.Endings.{StopLooks, IsEndingOf, EndingIsTrue, EndingTold}
 use Rattle.b2_update.specs.declared.run.Run.{Run}
-use Rattle.b2_update.specs.declared.stop.Stop.{Stop}
-use Rattle.b2_update.specs.declared.stop.Stop.TheVariants as stops
+use Rattle.b2_update.specs.declared.stop.UpdateStop.{UpdateStop}
+use Rattle.b2_update.specs.declared.stop.UpdateStop.TheVariants as stops
 use Rattle.b2_update.specs.declared.update_answer.UpdateAnswer.{UpdateAnswer}
 use Rattle.b2_update.specs.Going.{IsGoing, Halts, SameWay, Rests, NoneStarts}
 use Rattle.b2_update.specs.InRun.{IsUpdateHere, IsInRun, HasHalted, Tells}
@@ -74,7 +74,7 @@ ending_tells_none plan made here there run s (files.TooBig number size) out T sa
 
 -- ---- it was found, and told or not
 
-pub ending_comes : (plan : Plan) (entry here there : Moment) (run : Run) (ending : Ending) (r : Result UpdateAnswer Stop) → IsGoing plan entry here run
+pub ending_comes : (plan : Plan) (entry here there : Moment) (run : Run) (ending : Ending) (r : Result UpdateAnswer UpdateStop) → IsGoing plan entry here run
     → here.host.children.running ≡ [] → there.host ≡ here.host → IsEndingOf run.looks.board.sched run.quit ending
     → EndingSays plan.steps run.updated ending here.out there.out r
     → MatchResult r (HasCome plan run.looks.board.sched.jobs entry there) (Halts plan run.looks.board.sched.jobs run.waits entry there)
@@ -84,7 +84,7 @@ ending_comes plan entry here there run ending (Err stop) going idle host is says
     let (lists, e, untold) = untold_end plan.steps run.updated ending here.out there.out stop says in
     untold_halts plan entry here there run going idle host _ stop untold
 
-pub ending_tells : (plan : Plan) (made : Made) (here there : Moment) (run : Run) (s : Sights) (ending : Ending) (r : Result UpdateAnswer Stop) → IsSound run.looks.board.sched
+pub ending_tells : (plan : Plan) (made : Made) (here there : Moment) (run : Run) (s : Sights) (ending : Ending) (r : Result UpdateAnswer UpdateStop) → IsSound run.looks.board.sched
     → AreLooks plan 0 run.sights.facts run.looks → Rests run → NoneStarts run → here.host.children.running ≡ [] → there.host ≡ here.host
     → EndingTold plan run.looks run.quit here.host run.sights there.host (Ok ending) → EndingSays plan.steps run.updated ending here.out there.out r
     → EndTells plan made here run there (learned run s) r
@@ -105,7 +105,7 @@ ending_tells plan made here there run s ending r sound looks rests none idle hos
         disk_or (Some x) d = x
 
     by_result : (u : Update) (entry : Moment) (events : List ChildEvent) (by : IsUpdateHere plan made run u) (disk : Disk) (is : IsInRun u entry here run disk events) → EndingIsTrue u events ending
-        → (q : Result UpdateAnswer Stop) → EndingSays u.build.steps run.updated ending here.out there.out q → MatchResult q (HasComeInRun u entry there disk) (HasHalted u entry there s.facts disk)
+        → (q : Result UpdateAnswer UpdateStop) → EndingSays u.build.steps run.updated ending here.out there.out q → MatchResult q (HasComeInRun u entry there disk) (HasHalted u entry there s.facts disk)
     by_result u entry events by disk is true_end (Ok answer) say =
         come_in_run plan made here there run sound looks rests none idle host u entry events by disk is ending answer true_end (told_end u.build.steps run.updated ending here.out there.out answer say)
     by_result u entry events by disk is true_end (Err stop) say =
@@ -122,7 +122,7 @@ keeps_stop_looks T before after (files.TooBig number size) says = absurd says
 -- ---- what comes before the end
 
 -- a call that did not stop, and then the end
-pub tells_then_end : {T : Type 0} (plan : Plan) (made : Made) (x y z : Moment) (a b c : Run) (value : T) (r : Result UpdateAnswer Stop) → SameWay a b → BothTold BeginsPast y.host.disk z.host.disk
+pub tells_then_end : {T : Type 0} (plan : Plan) (made : Made) (x y z : Moment) (a b c : Run) (value : T) (r : Result UpdateAnswer UpdateStop) → SameWay a b → BothTold BeginsPast y.host.disk z.host.disk
     → Tells plan made x a y b (Ok value) → EndTells plan made y b z c r → EndTells plan made x a z c r
 tells_then_end plan made x y z a b c value r same grows first second = at x.host.disk y.host.disk z.host.disk grows first second
   where

@@ -15,13 +15,13 @@ use Rattle.b2_runs.specs.PlanChildren.{AreOfOpenSteps, ArePlanChildren}
 use Rattle.b2_turns.specs.Starts.{settles}
 use Rattle.b2_endings.specs.Writings.{Says}
 use Rattle.b2_update.specs.declared.run.Run.{Run}
-use Rattle.b2_update.specs.declared.stop.Stop.{Stop}
+use Rattle.b2_update.specs.declared.stop.UpdateStop.{UpdateStop}
 use Rattle.b2_update.specs.Stops.{StopCausedBy, host_stop_of, sink_stop_of}
 use Rattle.b2_update.specs.Going.{IsGoing, Halts}
 
 module _ (plan : Plan) (entry here there : Moment) (run : Run) (going : IsGoing plan entry here run) where
   -- where no child has started or ended since, and the counts of faults are as the stop says
-  pub going_halts : (stop : Stop) → there.host.children ≡ here.host.children → there.host.failed_waits ≡ here.host.failed_waits → Keeps here.host there.host → OutKeeps here.out there.out → StopCausedBy entry there stop → Halts plan run.looks.board.sched.jobs run.waits entry there stop
+  pub going_halts : (stop : UpdateStop) → there.host.children ≡ here.host.children → there.host.failed_waits ≡ here.host.failed_waits → Keeps here.host there.host → OutKeeps here.out there.out → StopCausedBy entry there stop → Halts plan run.looks.board.sched.jobs run.waits entry there stop
   going_halts stop children failed_waits host out caused =
       let running = ap (λ (family : Family). family.running) children in
       record {

@@ -23,14 +23,14 @@ use Rattle.b2_looks.specs.UnderWay.{IsUpdateBy}
 use Rattle.b2_turns.specs.Ends.{Finishes}
 use Rattle.b2_turns.proofs.StepsFinish.{finish_is_true}
 use Rattle.b2_update.specs.declared.run.Run.{Run}
-use Rattle.b2_update.specs.declared.stop.Stop.{Stop}
+use Rattle.b2_update.specs.declared.stop.UpdateStop.{UpdateStop}
 use Rattle.b2_update.specs.Moments.{moment}
 use Rattle.b2_update.specs.InRun.{IsUpdateHere, StandsInRun, IsCounted, IsInRun, HasHalted, Tells, WaitTells, SettleTells}
 use Rattle.b2_update.proofs.WaitTellsEnd.{WaitsAt}
 use Rattle.b2_update.proofs.SettleTellsEnd.{SettlesAt}
 
 -- what a call tells of these files
-abbrev TellsAt : {T : Type 0} → Plan → Made → Moment → Run → Moment → Run → Result T Stop → Disk → Disk → Type 0
+abbrev TellsAt : {T : Type 0} → Plan → Made → Moment → Run → Moment → Run → Result T UpdateStop → Disk → Disk → Type 0
 TellsAt plan made before run after later result old new = (u : Update) (entry : Moment) (events : List ChildEvent) → IsUpdateHere plan made run u → Distinguishes u new.past → IsInRun u entry before run old events
     → MatchResult result (λ x. (now : List ChildEvent) × IsInRun u entry after later new now) (λ stop. HasHalted u entry after later.sights.facts new stop)
 
@@ -48,14 +48,14 @@ told_apart : (u : Update) (mid new : Disk) → BeginsPast mid new → Distinguis
 told_apart u mid new (more, is) tells = distinguishes_less u mid.past new.past (λ old c. subst (λ (l : List Past). Contains l old) (sym is) (Contains-append_left mid.past more old c)) tells
 
 -- what is told of a result is told of the same one
-pub tells_with : {T : Type 0} (plan : Plan) (made : Made) (before : Moment) (run : Run) (after : Moment) (later : Run) (r s : Result T Stop) → r ≡ s → Tells plan made before run after later s → Tells plan made before run after later r
+pub tells_with : {T : Type 0} (plan : Plan) (made : Made) (before : Moment) (run : Run) (after : Moment) (later : Run) (r s : Result T UpdateStop) → r ≡ s → Tells plan made before run after later s → Tells plan made before run after later r
 tells_with plan made before run after later r s e told = subst (Tells plan made before run after later) (sym e) told
 
 module _ (plan : Plan) (made : Made) (x y z : Outside) (o p : Output) (run mid_run later : Run) (i : ℕ) (well : Bool) (same : mid_run ≡ record run { waits = mid_run.waits }) (keeps : Keeps y z) (waits : WaitTells plan made (moment x o) run (moment y o) mid_run (Ok (i, well))) where
   here_then : (u : Update) → IsUpdateHere plan made run u → IsUpdateHere plan made mid_run u
   here_then u here = record { by = subst (λ (l : Looks). IsUpdateBy plan l u) (sym (ap (λ (r : Run). r.looks) same)) here.by; quit = here.quit ∙ sym (ap (λ (r : Run). r.quit) same); made_is = here.made_is }
 
-  pub settle_stop_told : (stop : Stop) → SettleTells plan made i well (moment y o) mid_run (moment z p) later (Err stop) → Tells {T = Unit {0}} plan made (moment x o) run (moment z p) later (Err stop)
+  pub settle_stop_told : (stop : UpdateStop) → SettleTells plan made i well (moment y o) mid_run (moment z p) later (Err stop) → Tells {T = Unit {0}} plan made (moment x o) run (moment z p) later (Err stop)
   settle_stop_told stop settles = told_then (WaitsAt plan made (moment x o) run (moment y o) mid_run (Ok (i, well))) (SettlesAt plan made i well (moment y o) mid_run (moment z p) later (Err stop)) BeginsPast (TellsAt {T = Unit {0}} plan made (moment x o) run (moment z p) later (Err stop))
       x.disk y.disk z.disk waits settles keeps.files (λ old mid new waited settled begins u entry events here tells r.
       settled u entry events (here_then u here) tells (waited u entry events here (told_apart u mid new begins tells) r))

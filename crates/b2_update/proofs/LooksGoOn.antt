@@ -17,19 +17,19 @@ use Rattle.b2_runs.specs.PlanChildren.{AreOfOpenSteps, ArePlanChildren}
 use Rattle.b2_runs.specs.Moments.{Moment}
 use Rattle.b2_plan.specs.declared.step.Step.{Step}
 use Rattle.b2_sched.specs.Keeping.{is_unjudged}
-use Rattle.b2_facts.specs.declared.stop.Stop.{Stop as FilesStop}
-use Rattle.b2_facts.specs.declared.stop.Stop.TheVariants as files
+use Rattle.b2_facts.specs.declared.stop.FilesStop.{FilesStop}
+use Rattle.b2_facts.specs.declared.stop.FilesStop.TheVariants as files
 use Rattle.b2_facts.specs.Facts.{IsAbout}
 use Rattle.b2_facts.specs.Stops.{StopTold}
 use Rattle.b2_reach.specs.declared.sights.Sights.{Sights}
-use Rattle.b2_verdicts.specs.declared.way.Way.{Way}
+use Rattle.b2_verdicts.specs.declared.judging_mode.JudgingMode.{JudgingMode}
 use Rattle.b2_looks.specs.declared.looks.Looks.{Looks}
 use Rattle.b2_looks.specs.Looks.{AreLooks, Follows, LooksOn}
 use Rattle.b2_turns.specs.Starts.{is_settled, settles}
 use Rattle.b2_looks.proofs.LooksAreKept.{settled_on}
 use Rattle.b2_turns.proofs.SettledStepsStay.{settled_tells, tells_settled}
 use Rattle.b2_update.specs.declared.run.Run.{Run}
-use Rattle.b2_update.specs.declared.stop.Stop.TheVariants as stops
+use Rattle.b2_update.specs.declared.stop.UpdateStop.TheVariants as stops
 use Rattle.b2_update.specs.Stops.{StopCausedBy}
 use Rattle.b2_update.specs.Going.{IsGoing, Halts, SameWay, is_unended, unended}
 use Rattle.b2_update.proofs.StatesAreCounted.{count_at_most}
@@ -83,7 +83,7 @@ going_looked plan entry here there run l s going out only faults about looks on 
       planned = record {
         about = about;
         looks = looks;
-        way = by_digest ∙ going.planned.way ∙ sym (ap (λ (w : Way). w.by_digest) way);
+        way = by_digest ∙ going.planned.way ∙ sym (ap (λ (w : JudgingMode). w.by_digest) way);
         planned = subst (ArePlanChildren plan.steps (settles l.board.sched)) (sym running) (children_looked plan.steps run.looks l going.short going.events here.host.children.running going.happened.of_open going.follows on going.planned.planned);
         waits = ap (λ (xs : List Child). length xs) running ∙ going.planned.waits;
         given = λ child among. going.planned.given child (subst (λ (xs : List Child). Contains xs child) running among) ∙ sym (stays_visible here.host there.host (keeps_log_changes here.host there.host only));

@@ -21,8 +21,8 @@ use Rattle.b2_runs.proofs.BegunUpToStart.{run_is_begun}
 use Rattle.b2_runs.proofs.DiskStaysSound.{log_is_allowed}
 use Rattle.b2_runs.proofs.LinesFollow.{all_is_told}
 use Rattle.b2_runs.proofs.OutputsAreNewer.{none_older_after_change}
-use Rattle.b2_facts.specs.declared.stop.Stop.{Stop as FilesStop}
-use Rattle.b2_facts.specs.declared.stop.Stop.TheVariants as files
+use Rattle.b2_facts.specs.declared.stop.FilesStop.{FilesStop}
+use Rattle.b2_facts.specs.declared.stop.FilesStop.TheVariants as files
 use Rattle.b2_facts.specs.Facts.{Knowledge}
 use Rattle.b2_drain.specs.Drains.{Made}
 use Rattle.b2_reach.specs.declared.sights.Sights.{Sights}
@@ -30,7 +30,7 @@ use Rattle.b2_looks.specs.declared.looks.Looks.{Looks}
 use Rattle.b2_looks.specs.Looks.{Follows}
 use Rattle.b2_looks.specs.UnderWay.{IsStopOf, IsHalted, LookTold, IsUnderWay, AreTrueLooks}
 use Rattle.b2_update.specs.declared.run.Run.{Run}
-use Rattle.b2_update.specs.declared.stop.Stop.TheVariants as stops
+use Rattle.b2_update.specs.declared.stop.UpdateStop.TheVariants as stops
 use Rattle.b2_update.specs.InRun.{HasRun, IsInRun, HasHalted, StopWritten, StopTooBig, Tells}
 use Rattle.b2_update.proofs.LooksGoOn.{looked}
 use Rattle.b2_update.proofs.UpdateStandsAtEntry.{told_by, grown}

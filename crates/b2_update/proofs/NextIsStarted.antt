@@ -16,7 +16,7 @@ use Rattle.b2_looks.specs.Looks.{AreLooks}
 use Rattle.b2_drain.specs.Drains.{Made}
 use Rattle.b2_endings.specs.Writings.{Says}
 use Rattle.b2_update.specs.declared.run.Run.{Run}
-use Rattle.b2_update.specs.declared.stop.Stop.{Stop}
+use Rattle.b2_update.specs.declared.stop.UpdateStop.{UpdateStop}
 use Rattle.b2_update.specs.Stops.{host_stop_of, sink_stop_of}
 use Rattle.b2_update.specs.Going.{IsGoing, Halts, SameWay, Rests, NoneStarts, unended, stale}
 use Rattle.b2_update.specs.InRun.{Tells}
@@ -27,7 +27,7 @@ use Rattle.b2_update.proofs.StepIsStarted.{IsTaken, IsStarted, taken_halts, goes
 use Rattle.b2_update.proofs.StartIsTold.{in_run_on, in_run_stops}
 
 -- the call's promises
-pub record StartsOn (plan : Plan) (made : Made) (x : Moment) (a : Run) (y : Moment) (b : Run) (r : Result Bool Stop) : Type 0 where
+pub record StartsOn (plan : Plan) (made : Made) (x : Moment) (a : Run) (y : Moment) (b : Run) (r : Result Bool UpdateStop) : Type 0 where
   pub way : SameWay a b
   pub going : (entry : Moment) → IsGoing plan entry x a → MatchResult r (λ more. IsGoing plan entry y b) (Halts plan b.looks.board.sched.jobs b.waits entry y)
   pub rests : OnOk r (Rests b)
@@ -50,7 +50,7 @@ starts_none plan made x a b same rests none = subst (λ r. StartsOn plan made x 
   told = tells_here plan made x a false;
 })
 
-module _ (plan : Plan) (made : Made) (x y : Moment) (a b c : Run) (i : ℕ) (apart : Apart plan.steps plan.roots) (taken : IsTaken plan i a b) (r : Result Bool Stop) where
+module _ (plan : Plan) (made : Made) (x y : Moment) (a b c : Run) (i : ℕ) (apart : Apart plan.steps plan.roots) (taken : IsTaken plan i a b) (r : Result Bool UpdateStop) where
   -- it was taken, and then a call of the host failed, or no memory was left
   pub starts_no_child : (fault : IoFault) → c ≡ b → IoLooks {T = Unit {0}} x.host y.host (Err fault) → y.out ≡ x.out → r ≡ Err (host_stop_of fault) → StartsOn plan made x a y c r
   starts_no_child fault same failed out is = subst (λ d. StartsOn plan made x a y d r) (sym same) (subst (StartsOn plan made x a y b) (sym is) (record {

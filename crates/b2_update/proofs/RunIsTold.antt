@@ -12,7 +12,7 @@ use Rattle.b2_runs.specs.Staleness.{Update}
 use Rattle.b2_runs.specs.Moments.{Moment}
 use Rattle.b2_drain.specs.Drains.{Made, DrainTold}
 use Rattle.b2_update.specs.declared.run.Run.{Run}
-use Rattle.b2_update.specs.declared.stop.Stop.{Stop}
+use Rattle.b2_update.specs.declared.stop.UpdateStop.{UpdateStop}
 use Rattle.b2_update.specs.declared.update_answer.UpdateAnswer.{UpdateAnswer}
 use Rattle.b2_update.specs.Answers.{answer_of}
 use Rattle.b2_update.specs.Endings.{HasComeInRun, EndTells, IsStopAnswer}
@@ -56,7 +56,7 @@ run_came plan made before after run later answer alike told =
 
 -- ---- it was stopped
 
-pub run_stopped : (plan : Plan) (made : Made) (before here after : Moment) (run later : Run) (stop : Stop) (all : Bool) (answer : UpdateAnswer) → ReadsAlike after.host → after.out ≡ here.out
+pub run_stopped : (plan : Plan) (made : Made) (before here after : Moment) (run later : Run) (stop : UpdateStop) (all : Bool) (answer : UpdateAnswer) → ReadsAlike after.host → after.out ≡ here.out
     → after.host.reads ≡ here.host.reads → after.host.children.given ≡ here.host.children.given → BothTold BeginsPast here.host.disk after.host.disk → DrainTold made here.host after.host
     → IsStopAnswer later.sights.facts stop all answer → EndTells plan made before run here later (Err stop) → RunTells plan made before run after answer
 run_stopped plan made before here after run later stop all answer alike out reads given grows drains answers told =

@@ -28,8 +28,8 @@ use Rattle.b2_runs.proofs.LinesFollow.{lines_follow, all_is_told, told_through_e
 use Rattle.b2_runs.proofs.OutputsAreNewer.{none_older_after_change}
 use Rattle.b2_runs.proofs.RunGoesOn.{run_goes_on}
 use Rattle.b2_drain.specs.Drains.{Made}
-use Rattle.b2_facts.specs.declared.stop.Stop.{Stop as FilesStop}
-use Rattle.b2_facts.specs.declared.stop.Stop.TheVariants as files
+use Rattle.b2_facts.specs.declared.stop.FilesStop.{FilesStop}
+use Rattle.b2_facts.specs.declared.stop.FilesStop.TheVariants as files
 use Rattle.b2_reach.specs.declared.sights.Sights.{Sights}
 use Rattle.b2_looks.specs.UnderWay.{IsUnderWay, AreTrueLooks, IsStopOf, IsHalted}
 use Rattle.b2_looks.proofs.UpdateStays.{is_going, going_cut, log_allowed}
@@ -37,15 +37,15 @@ use Rattle.b2_turns.specs.Ends.{StandsNoMore, MadeTold, ClearTold}
 use Rattle.b2_endings.specs.Writings.{Adds, AddsPart, Says}
 use Rattle.b2_update.proofs.TextsAreAdded.{adds_both}
 use Rattle.b2_update.specs.declared.run.Run.{Run}
-use Rattle.b2_update.specs.declared.stop.Stop.{Stop}
-use Rattle.b2_update.specs.declared.stop.Stop.TheVariants as stops
+use Rattle.b2_update.specs.declared.stop.UpdateStop.{UpdateStop}
+use Rattle.b2_update.specs.declared.stop.UpdateStop.TheVariants as stops
 use Rattle.b2_update.specs.Moments.{moment}
 use Rattle.b2_update.specs.Stops.{sink_stop_of}
 use Rattle.b2_update.specs.InRun.{IsUpdateHere, HasRun, StandsInRun, IsCounted, HasHeardInRun, StopWritten, StopTooBig, HasHalted, SettleTells}
 use Rattle.b2_update.proofs.WaitTellsEnd.{both_at, may_stop}
 
 -- what settling tells of these files
-abbrev pub SettlesAt : Plan → Made → ℕ → Bool → Moment → Run → Moment → Run → Result Bool Stop → Disk → Disk → Type 0
+abbrev pub SettlesAt : Plan → Made → ℕ → Bool → Moment → Run → Moment → Run → Result Bool UpdateStop → Disk → Disk → Type 0
 SettlesAt plan made i well before run after later result old new = (u : Update) (entry : Moment) (events : List ChildEvent) → IsUpdateHere plan made run u → Distinguishes u new.past → HasHeardInRun u i well entry before run old events
     → MatchResult result (λ updated. (updated ≡ well) × StandsInRun u entry after later.sights later.looks new (events ++ Done i well ∷ []) × IsCounted events later) (λ stop. HasHalted u entry after later.sights.facts new stop)
 
@@ -186,7 +186,7 @@ module _ (plan : Plan) (made : Made) (i : ℕ) (x y : Outside) (o : Output) (run
 
     -- the line was not written, or in part
     halted_at_line : (u : Update) (entry : Moment) (events : List ChildEvent) (old new : Disk) (h : HasHeardInRun u i false entry (moment x o) run old events) → step_at u.build.steps i ≡ Some step → IsAllowedChange u (events ++ Done i false ∷ []) old new → (more : List Read) → AddsReads more x.reads y.reads
-        → IsUnderWay u (events ++ Done i false ∷ []) h.first (h.reads ++ more) new t → (stop : Stop) → ((part : List ℕ) → StopsWithLog u (events ++ Done i false ∷ []) new.now part → StopWritten u (events ++ Done i false ∷ []) new.now stop part) → StopTooBig u (events ++ Done i false ∷ []) new.now t.facts stop → AddsPart (failed_line step) o.written p.written
+        → IsUnderWay u (events ++ Done i false ∷ []) h.first (h.reads ++ more) new t → (stop : UpdateStop) → ((part : List ℕ) → StopsWithLog u (events ++ Done i false ∷ []) new.now part → StopWritten u (events ++ Done i false ∷ []) new.now stop part) → StopTooBig u (events ++ Done i false ∷ []) new.now t.facts stop → AddsPart (failed_line step) o.written p.written
         → HasHalted u entry (moment y p) t.facts new stop
     halted_at_line u entry events old new h at_u change more adds under stop so_written too_big said =
         let ran = ran_still u i false entry x y o run old new events h children p change in
@@ -228,11 +228,11 @@ module _ (plan : Plan) (made : Made) (i : ℕ) (x y : Outside) (o : Output) (run
         by_fault u entry events old new h at_u change more adds under io.OutOfMemory (same, part, may) = halted_at_line u entry events old new h at_u change more adds under (stops.Files files.OutOfMemory) (λ text stopped. inr stopped) tt part
 
 -- what is told of a result is told of the same one
-pub settles_with : (plan : Plan) (made : Made) (i : ℕ) (well : Bool) (before : Moment) (run : Run) (after : Moment) (later : Run) (r s : Result Bool Stop) → r ≡ s → SettleTells plan made i well before run after later s → SettleTells plan made i well before run after later r
+pub settles_with : (plan : Plan) (made : Made) (i : ℕ) (well : Bool) (before : Moment) (run : Run) (after : Moment) (later : Run) (r s : Result Bool UpdateStop) → r ≡ s → SettleTells plan made i well before run after later s → SettleTells plan made i well before run after later r
 settles_with plan made i well before run after later r s e told = subst (SettleTells plan made i well before run after later) (sym e) told
 
 -- nothing is told where no file is visible
-pub unseen_told : (plan : Plan) (made : Made) (i : ℕ) (well : Bool) (before : Moment) (run : Run) (after : Moment) (later : Run) (r : Result Bool Stop) → before.host.disk ≡ None → after.host.disk ≡ None → SettleTells plan made i well before run after later r
+pub unseen_told : (plan : Plan) (made : Made) (i : ℕ) (well : Bool) (before : Moment) (run : Run) (after : Moment) (later : Run) (r : Result Bool UpdateStop) → before.host.disk ≡ None → after.host.disk ≡ None → SettleTells plan made i well before run after later r
 unseen_told plan made i well before run after later r none unseen = go before.host.disk after.host.disk none unseen
   where
     go : (x y : Option Disk) → x ≡ None → y ≡ None → BothTold (SettlesAt plan made i well before run after later r) x y

@@ -37,7 +37,7 @@ use Rattle.b2_drain.specs.Drains.{Made}
 use Rattle.b2_endings.specs.Writings.{Adds, AddsPart, Says}
 use Rattle.b2_update.proofs.TextsAreAdded.{adds_both}
 use Rattle.b2_update.specs.declared.run.Run.{Run}
-use Rattle.b2_update.specs.declared.stop.Stop.{Stop}
+use Rattle.b2_update.specs.declared.stop.UpdateStop.{UpdateStop}
 use Rattle.b2_update.specs.Stops.{sink_stop_of}
 use Rattle.b2_update.specs.Going.{Rests}
 use Rattle.b2_update.specs.InRun.{IsUpdateHere, HasRun, IsInRun, StopWritten, StopTooBig, HasHalted}
@@ -135,7 +135,7 @@ module _ (plan : Plan) (made : Made) (x y : Moment) (a b c : Run) (i : ℕ) (ste
     pub in_run_stops : (fault : IoFault) → start_line step ≢ [] → Says {T = Unit {0}} (start_line step) x.out y.out (Err fault) → HasHalted u entry y c.sights.facts disk (sink_stop_of fault)
     in_run_stops fault some says = go fault says
       where
-        halted : (stop : Stop) (text : AddsPart (start_line step) x.out.written y.out.written) → StopWritten u (events ++ Start i ∷ []) disk.now stop (event_lines u.build.steps events ++ text.part) → StopTooBig u (events ++ Start i ∷ []) disk.now c.sights.facts stop
+        halted : (stop : UpdateStop) (text : AddsPart (start_line step) x.out.written y.out.written) → StopWritten u (events ++ Start i ∷ []) disk.now stop (event_lines u.build.steps events ++ text.part) → StopTooBig u (events ++ Start i ∷ []) disk.now c.sights.facts stop
             → HasHalted u entry y c.sights.facts disk stop
         halted stop text written too_big =
             run_halts u entry y (events ++ Start i ∷ []) old.stands.first old.stands.reads disk b.sights c.sights.facts stop (event_lines u.build.steps events ++ text.part) ran_on reads_are comes.0

@@ -30,11 +30,11 @@ use Rattle.b2_runs.proofs.RunIsInOrder.{order_goes_on}
 use Rattle.b2_sched.specs.declared.state.State.{State}
 use Rattle.b2_sched.specs.declared.state.State.TheVariants as states
 use Rattle.b2_sched.specs.Schedules.{Schedule, state_of, IsStale, CanLook, QuitsNow}
-use Rattle.b2_sched.specs.Calls.{StartsNext}
+use Rattle.b2_sched.specs.SchedulerCalls.{StartsNext}
 use Rattle.b2_sched.specs.Sound.{IsSound}
 use Rattle.b2_facts.specs.Facts.{IsAbout, path_at}
 use Rattle.b2_verdicts.specs.Sights.{AreNumbers}
-use Rattle.b2_verdicts.specs.declared.way.Way.{Way}
+use Rattle.b2_verdicts.specs.declared.judging_mode.JudgingMode.{JudgingMode}
 use Rattle.b2_verdicts.specs.declared.step_numbers.StepNumbers.{StepNumbers}
 use Rattle.b2_looks.specs.Looks.{ready_at, IsReady, AreLooks, Follows}
 use Rattle.b2_looks.proofs.FilesAreNumbered.{ins_numbers}
@@ -244,7 +244,7 @@ module _ (plan : Plan) (entry here : Moment) (a b : Run) (i : ℕ) (apart : Apar
     planned = record {
       about = taken.about;
       looks = taken.looks;
-      way = taken.begins.by_digest ∙ going.planned.way ∙ sym (ap (λ (w : Way). w.by_digest) taken.begins.way);
+      way = taken.begins.by_digest ∙ going.planned.way ∙ sym (ap (λ (w : JudgingMode). w.by_digest) taken.begins.way);
       planned = plan_children_after_start plan.steps (settles b.looks.board.sched) here.host.children i step started_so.ins here.host.disk planned_after at (unsettled_after i not_settled) (λ path k other among makes. settled_after k (reads path k other among makes));
       waits = (
           let waits = going.planned.waits in

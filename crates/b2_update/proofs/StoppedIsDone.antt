@@ -18,11 +18,11 @@ use Rattle.b2_runs.specs.Moments.{Moment}
 use Rattle.b2_runs.specs.UpdateAnswers.{UpdateAnswer as RunAnswer, AnswerTold, WrittenBy}
 use Rattle.b2_runs.proofs.CutLogIsTrue.{cut_log_is_noted}
 use Rattle.b2_drain.specs.Drains.{HasStopped, StaysStopped}
-use Rattle.b2_facts.specs.declared.stop.Stop.TheVariants as files
+use Rattle.b2_facts.specs.declared.stop.FilesStop.TheVariants as files
 use Rattle.b2_facts.specs.Facts.{Knowledge}
 use Rattle.b2_endings.specs.Writings.{Adds}
-use Rattle.b2_update.specs.declared.stop.Stop.{Stop}
-use Rattle.b2_update.specs.declared.stop.Stop.TheVariants as stops
+use Rattle.b2_update.specs.declared.stop.UpdateStop.{UpdateStop}
+use Rattle.b2_update.specs.declared.stop.UpdateStop.TheVariants as stops
 use Rattle.b2_update.specs.declared.update_answer.UpdateAnswer.{UpdateAnswer}
 use Rattle.b2_update.specs.Answers.{answer_of}
 use Rattle.b2_update.specs.InRun.{StopWritten, StopTooBig, HasHalted}
@@ -78,7 +78,7 @@ stopped_is_done u answer entry here disk later events given reads part apart fol
 abbrev IsAnswer : Update → List ChildEvent → Folder → UpdateAnswer → List ℕ → Type 0
 IsAnswer u events now answer part = AnswerTold u events now (answer_of answer) × WrittenBy u events now (answer_of answer) part
 
-is_answer : (u : Update) (events : List ChildEvent) (now : Folder) (f : Knowledge) (stop : Stop) (all : Bool) (answer : UpdateAnswer) (part : List ℕ) → StopWritten u events now stop part → StopTooBig u events now f stop → IsStopAnswer f stop all answer
+is_answer : (u : Update) (events : List ChildEvent) (now : Folder) (f : Knowledge) (stop : UpdateStop) (all : Bool) (answer : UpdateAnswer) (part : List ℕ) → StopWritten u events now stop part → StopTooBig u events now f stop → IsStopAnswer f stop all answer
     → IsAnswer u events now answer part
 is_answer u events now f (stops.Files files.Host) all answer part written too_big is = subst (λ a. IsAnswer u events now a part) (sym is) (tt, written)
 is_answer u events now f (stops.Files files.OutOfMemory) all answer part written too_big is = subst (λ a. IsAnswer u events now a part) (sym is) (tt, written)
@@ -89,7 +89,7 @@ is_answer u events now f (stops.Files (files.TooBig number size)) true answer pa
 is_answer u events now f (stops.Files (files.TooBig number size)) false answer part written too_big is = subst (λ a. IsAnswer u events now a part) (sym is) (tt, written)
 is_answer u events now f stops.Sink all answer part written too_big is = subst (λ a. IsAnswer u events now a part) (sym is) (tt, written)
 
-pub halted_is_done : (u : Update) (entry here : Moment) (f : Knowledge) (disk later : Disk) (stop : Stop) (all : Bool) (answer : UpdateAnswer) → Apart u.build.steps u.build.roots → u.build.folder ≡ disk.now → IsLogIn disk.now u.log
+pub halted_is_done : (u : Update) (entry here : Moment) (f : Knowledge) (disk later : Disk) (stop : UpdateStop) (all : Bool) (answer : UpdateAnswer) → Apart u.build.steps u.build.roots → u.build.folder ≡ disk.now → IsLogIn disk.now u.log
     → is_some here.host.reads ≡ true → HasHalted u entry here f later stop → IsStopAnswer f stop all answer → IsDone u (answer_of answer) entry here disk later
 halted_is_done u entry here f disk later stop all answer apart folder log_in visible h is =
     let (told, written) = is_answer u h.events later.now f stop all answer h.part h.written h.too_big is in
@@ -98,7 +98,7 @@ halted_is_done u entry here f disk later stop all answer apart folder log_in vis
 -- ---- as its children end
 
 -- it stays stopped so, with more ends
-pub halted_stays : (u : Update) (entry here there : Moment) (f : Knowledge) (old new : Disk) (stop : Stop) → Apart u.build.steps u.build.roots → there.out ≡ here.out → there.host.reads ≡ here.host.reads
+pub halted_stays : (u : Update) (entry here there : Moment) (f : Knowledge) (old new : Disk) (stop : UpdateStop) → Apart u.build.steps u.build.roots → there.out ≡ here.out → there.host.reads ≡ here.host.reads
     → there.host.children.given ≡ here.host.children.given → (h : HasHalted u entry here f old stop) → StaysStopped u h.events h.given h.reads here.host there.host old new → HasHalted u entry there f new stop
 halted_stays u entry here there f old new stop apart out reads given h stays = record {
   events = h.events ++ stays.ends;
@@ -117,7 +117,7 @@ halted_stays u entry here there f old new stop apart out reads given h stays = r
     log : log_file new.now ≡ log_file old.now
     log = ap (option_map (λ (file : File). file.bytes)) stays.log
 
-    too_big : (s : Stop) → StopTooBig u h.events old.now f s → StopTooBig u (h.events ++ stays.ends) new.now f s
+    too_big : (s : UpdateStop) → StopTooBig u h.events old.now f s → StopTooBig u (h.events ++ stays.ends) new.now f s
     too_big (stops.Files files.Host) told = tt
     too_big (stops.Files files.OutOfMemory) told = tt
     too_big (stops.Files (files.TooBig number size)) (path, at, is) = (path, at, stays.too_big path size is)

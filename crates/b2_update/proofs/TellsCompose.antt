@@ -11,10 +11,10 @@ use Rattle.b2_runs.specs.Staleness.{Update}
 use Rattle.b2_runs.specs.Soundness.{Distinguishes}
 use Rattle.b2_runs.specs.Moments.{Moment}
 use Rattle.b2_runs.proofs.RecordIsTrue.{distinguishes_less}
-use Rattle.b2_verdicts.specs.declared.way.Way.{Way}
+use Rattle.b2_verdicts.specs.declared.judging_mode.JudgingMode.{JudgingMode}
 use Rattle.b2_drain.specs.Drains.{Made}
 use Rattle.b2_update.specs.declared.run.Run.{Run}
-use Rattle.b2_update.specs.declared.stop.Stop.{Stop}
+use Rattle.b2_update.specs.declared.stop.UpdateStop.{UpdateStop}
 use Rattle.b2_update.specs.Going.{SameWay}
 use Rattle.b2_update.specs.InRun.{IsUpdateHere, IsInRun, HasHalted, Tells}
 
@@ -33,8 +33,8 @@ update_stays plan made run later u same is = record {
     steps = is.by.steps;
     roots = is.by.roots;
     wanted = is.by.wanted;
-    all = is.by.all ∙ sym (ap (λ (w : Way). w.all) same.way);
-    by_digest = is.by.by_digest ∙ sym (ap (λ (w : Way). w.by_digest) same.way);
+    all = is.by.all ∙ sym (ap (λ (w : JudgingMode). w.all) same.way);
+    by_digest = is.by.by_digest ∙ sym (ap (λ (w : JudgingMode). w.by_digest) same.way);
     jobs = is.by.jobs ∙ sym same.jobs;
   };
   quit = is.quit ∙ sym same.quit;
@@ -59,7 +59,7 @@ tells_here plan made here run value = at here.host.disk
     at (Some disk) = λ u entry events by distinct is. (events, is)
 
 -- a call that changes no file
-pub tells_at : {T : Type 0} (plan : Plan) (made : Made) (x y : Moment) (a b : Run) (r : Result T Stop) → y.host.disk ≡ x.host.disk
+pub tells_at : {T : Type 0} (plan : Plan) (made : Made) (x y : Moment) (a b : Run) (r : Result T UpdateStop) → y.host.disk ≡ x.host.disk
     → ((disk : Disk) → x.host.disk ≡ Some disk → (u : Update) (entry : Moment) (events : List ChildEvent) → IsUpdateHere plan made a u → IsInRun u entry x a disk events
     → MatchResult r (λ v. (now : List ChildEvent) × IsInRun u entry y b disk now) (λ stop. HasHalted u entry y b.sights.facts disk stop))
     → Tells plan made x a y b r
@@ -78,7 +78,7 @@ tells_at plan made x y a b r same told = at x.host.disk y.host.disk same told
         told new (ap Some e) u entry events by (subst (λ disk. IsInRun u entry x a disk events) e is))
 
 -- one call that did not stop, and then another
-pub tells_then : {T V : Type 0} (plan : Plan) (made : Made) (x y z : Moment) (a b c : Run) (value : T) (r : Result V Stop) → SameWay a b → BothTold BeginsPast y.host.disk z.host.disk
+pub tells_then : {T V : Type 0} (plan : Plan) (made : Made) (x y z : Moment) (a b c : Run) (value : T) (r : Result V UpdateStop) → SameWay a b → BothTold BeginsPast y.host.disk z.host.disk
     → Tells plan made x a y b (Ok value) → Tells plan made y b z c r → Tells plan made x a z c r
 tells_then plan made x y z a b c value r same grows first second = at x.host.disk y.host.disk z.host.disk grows first second
   where

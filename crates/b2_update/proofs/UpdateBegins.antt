@@ -21,7 +21,7 @@ use Rattle.b2_looks.specs.Looks.{AreLooks, Follows}
 use Rattle.b2_turns.specs.Starts.{settles}
 use Rattle.b2_update.proofs.StatesAreCounted.{count_within}
 use Rattle.b2_update.specs.declared.run.Run.{Run}
-use Rattle.b2_update.specs.declared.stop.Stop.{Stop}
+use Rattle.b2_update.specs.declared.stop.UpdateStop.{UpdateStop}
 use Rattle.b2_update.specs.Stops.{StopCausedBy, host_stop_of}
 use Rattle.b2_update.specs.Going.{HasHappened, HasKept, IsGoing, Halts, is_unended}
 
@@ -67,7 +67,7 @@ going_begins plan entry here run idle only out faults about looks follows way wa
       counts = record { host = faults; waits = only.failed_waits; sink = ap (λ (o : Output). o.faults) out };
     }
 
-pub halts_begins : (plan : Plan) (jobs : ℕ) (entry here : Moment) (stop : Stop) → entry.host.children.running ≡ []
+pub halts_begins : (plan : Plan) (jobs : ℕ) (entry here : Moment) (stop : UpdateStop) → entry.host.children.running ≡ []
     → ChangesOnlyLog entry.host here.host → here.out ≡ entry.out → StopCausedBy entry here stop
     → Halts plan jobs 0 entry here stop
 halts_begins plan jobs entry here stop idle only out caused =

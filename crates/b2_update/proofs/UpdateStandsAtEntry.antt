@@ -25,7 +25,7 @@ use Rattle.b2_runs.proofs.OutputsAreNewer.{none_older_at_entry}
 use Rattle.b2_runs.proofs.RecordIsTrue.{distinguishes_less}
 use Rattle.b2_facts.specs.Facts.{Knowledge}
 use Rattle.b2_endings.specs.Writings.{Adds}
-use Rattle.b2_update.specs.declared.stop.Stop.{Stop}
+use Rattle.b2_update.specs.declared.stop.UpdateStop.{UpdateStop}
 use Rattle.b2_update.specs.InRun.{HasRun, HasHalted, StopWritten, StopTooBig}
 
 -- a relation of two disks that follows from another one, where the disks are named
@@ -86,7 +86,7 @@ ran_none u entry here later idle same = record {
 }
 
 -- an update that has stopped before any event
-pub halted_begins : (u : Update) (entry here : Moment) (f : Knowledge) (disk later : Disk) (stop : Stop) (reads : List Read)
+pub halted_begins : (u : Update) (entry here : Moment) (f : Knowledge) (disk later : Disk) (stop : UpdateStop) (reads : List Read)
     → Apart u.build.steps u.build.roots → entry.host.children.running ≡ [] → here.host.children ≡ entry.host.children
     → here.out ≡ entry.out → IsConsistent disk → IsConsistent later → (u.all ≡ false → RecordsTrue (making u) disk.past u.log)
     → u.build.folder ≡ disk.now → ChangesOnlyAt log_path disk later → Distinguishes u later.past

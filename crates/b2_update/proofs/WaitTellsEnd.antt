@@ -26,7 +26,7 @@ use Rattle.b2_sched.specs.Sound.{IsSound}
 use Rattle.b2_sched.proofs.StartsAgreeWithTheRun.{none_joins}
 use Rattle.b2_drain.specs.Drains.{Made, HasStopped}
 use Rattle.b2_drain.proofs.StoppedStaysStopped.{StoppedTold, no_wait_told, one_more_told}
-use Rattle.b2_facts.specs.declared.stop.Stop.TheVariants as files
+use Rattle.b2_facts.specs.declared.stop.FilesStop.TheVariants as files
 use Rattle.b2_reach.specs.declared.sights.Sights.{Sights}
 use Rattle.b2_looks.specs.Looks.{AreLooks}
 use Rattle.b2_looks.specs.UnderWay.{IsUnderWay}
@@ -35,8 +35,8 @@ use Rattle.b2_turns.specs.AtRest.{IsToldAtRest}
 use Rattle.b2_turns.proofs.RestIsTold.{at_rest_is_told}
 use Rattle.b2_turns.specs.Laws.{EndComes}
 use Rattle.b2_update.specs.declared.run.Run.{Run}
-use Rattle.b2_update.specs.declared.stop.Stop.{Stop}
-use Rattle.b2_update.specs.declared.stop.Stop.TheVariants as stops
+use Rattle.b2_update.specs.declared.stop.UpdateStop.{UpdateStop}
+use Rattle.b2_update.specs.declared.stop.UpdateStop.TheVariants as stops
 use Rattle.b2_update.specs.Moments.{moment}
 use Rattle.b2_update.specs.Going.{Rests, NoneStarts}
 use Rattle.b2_update.specs.InRun.{IsUpdateHere, IsInRun, HasHeardInRun, HasHalted, WaitTells}
@@ -69,7 +69,7 @@ may_stop u events first reads disk s given running w closures at_work none_older
 }
 
 -- what a wait tells of these files
-abbrev pub WaitsAt : Plan → Made → Moment → Run → Moment → Run → Result (ℕ × Bool) Stop → Disk → Disk → Type 0
+abbrev pub WaitsAt : Plan → Made → Moment → Run → Moment → Run → Result (ℕ × Bool) UpdateStop → Disk → Disk → Type 0
 WaitsAt plan made before run after later result old new = (u : Update) (entry : Moment) (events : List ChildEvent) → IsUpdateHere plan made run u → Distinguishes u new.past → IsInRun u entry before run old events
     → MatchResult result (λ ended. HasHeardInRun u ended.0 ended.1 entry after later new events) (λ stop. HasHalted u entry after later.sights.facts new stop)
 

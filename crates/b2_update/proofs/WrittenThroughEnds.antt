@@ -17,9 +17,9 @@ use Rattle.b2_runs.specs.Reports.{AreEnds, TellsStarts, StopsAtEvent, StopsAtEnd
 use Rattle.b2_runs.specs.UpdateAnswers.{StopsWithLog}
 use Rattle.b2_runs.proofs.CutLogIsTrue.{cut_log_through_change}
 use Rattle.b2_runs.proofs.FirstElementOrLater.{Contains_cases, Contains_nil}
-use Rattle.b2_facts.specs.declared.stop.Stop.TheVariants as files
-use Rattle.b2_update.specs.declared.stop.Stop.{Stop}
-use Rattle.b2_update.specs.declared.stop.Stop.TheVariants as stops
+use Rattle.b2_facts.specs.declared.stop.FilesStop.TheVariants as files
+use Rattle.b2_update.specs.declared.stop.UpdateStop.{UpdateStop}
+use Rattle.b2_update.specs.declared.stop.UpdateStop.TheVariants as stops
 use Rattle.b2_update.specs.InRun.{StopWritten}
 use Rattle.b2_update.proofs.WaitTellsEnd.{are_ends}
 
@@ -97,7 +97,7 @@ module _ (u : Update) (events ends : List ChildEvent) (old new : Disk) (apart : 
   with_log_more written (inr stop) =
       inr (subst (λ (l : List ChildEvent). StopsAtEnd u l written) (sym (ap (λ (l : List ChildEvent). events ++ l) (none_ends u events ends stop.run opened) ∙ append-nil events)) stop)
 
-  pub written_more : (stop : Stop) (written : List ℕ) → StopWritten u events old.now stop written → StopWritten u (events ++ ends) new.now stop written
+  pub written_more : (stop : UpdateStop) (written : List ℕ) → StopWritten u events old.now stop written → StopWritten u (events ++ ends) new.now stop written
   written_more (stops.Files files.Host) written told = told_more u.build.steps events ends written (are_ends events ends opened) told
   written_more (stops.Files files.OutOfMemory) written (inl told) = inl (told_more u.build.steps events ends written (are_ends events ends opened) told)
   written_more (stops.Files files.OutOfMemory) written (inr stopped) = inr (with_log_more written stopped)

@@ -20,7 +20,7 @@ use Rattle.b2_runs.specs.UpdateAnswers as runs
 use Rattle.b2_runs.specs.UpdateAnswers.{CountsStay, CausedBy, LeavesNone, LeavesOpen, AnswerTold, WrittenBy, failed_of}
 use Rattle.b2_runs.specs.UpdateAnswers.UpdateAnswer.{all_went}
 use Rattle.b2_drain.specs.Drains.{Made}
-use Rattle.b2_facts.specs.declared.stop.Stop.TheVariants as files
+use Rattle.b2_facts.specs.declared.stop.FilesStop.TheVariants as files
 use Rattle.b2_facts.specs.Facts.{Knowledge, path_at}
 use Rattle.b2_reach.specs.declared.sights.Sights.{Sights}
 use Rattle.b2_looks.specs.UnderWay.{IsUnderWay}
@@ -29,8 +29,8 @@ use Rattle.b2_endings.specs.declared.ending.Ending.TheVariants as endings
 use Rattle.b2_endings.specs.Writings.{Adds}
 use Rattle.b2_endings.specs.Endings.{lists_of, answer_of_ending}
 use Rattle.b2_update.specs.declared.run.Run.{Run}
-use Rattle.b2_update.specs.declared.stop.Stop.{Stop}
-use Rattle.b2_update.specs.declared.stop.Stop.TheVariants as stops
+use Rattle.b2_update.specs.declared.stop.UpdateStop.{UpdateStop}
+use Rattle.b2_update.specs.declared.stop.UpdateStop.TheVariants as stops
 use Rattle.b2_update.specs.declared.update_answer.UpdateAnswer.{UpdateAnswer}
 use Rattle.b2_update.specs.declared.update_answer.UpdateAnswer.TheVariants as answers
 use Rattle.b2_update.specs.Answers.{answer_of}
@@ -68,7 +68,7 @@ pub record IsAnswered (plan : Plan) (jobs : ℕ) (entry here : Moment) (answer :
   pub left_open : LeavesOpen plan.steps entry.host.children here.host.children
 
 -- the answer of an update that has come to this end, and what is written at it
-abbrev pub EndingSays : List Step → ℕ → Ending → Output → Output → Result UpdateAnswer Stop → Type 0
+abbrev pub EndingSays : List Step → ℕ → Ending → Output → Output → Result UpdateAnswer UpdateStop → Type 0
 EndingSays steps updated (endings.StepCycle list) before after result = (result ≡ Ok (answers.StepCycle list)) × (after ≡ before)
 EndingSays steps updated (endings.Ended lists) before after (Ok answer) =
     (answer_of answer ≡ answer_of_ending (endings.Ended lists))
@@ -78,7 +78,7 @@ EndingSays steps updated (endings.Ended lists) before after (Err stop) =
 
 -- The answer of an update that was stopped, and of which each child was waited for, or some wait failed. A wait that failed
 -- behind a file that is too big is a fault of the host.
-abbrev pub IsStopAnswer : Knowledge → Stop → Bool → UpdateAnswer → Type 0
+abbrev pub IsStopAnswer : Knowledge → UpdateStop → Bool → UpdateAnswer → Type 0
 IsStopAnswer f (stops.Files files.Host) all answer = answer ≡ answers.HostFault
 IsStopAnswer f (stops.Files files.OutOfMemory) all answer = answer ≡ answers.OutOfMemory
 IsStopAnswer f (stops.Files (files.TooBig number size)) true answer = (answer ≡ answers.OutOfMemory)
@@ -103,7 +103,7 @@ pub record HasComeInRun (u : Update) (entry here : Moment) (disk : Disk) (answer
   pub written : WrittenBy u events disk.now (answer_of answer) part
 
 -- an update that is between two events has come to its end, or has stopped
-abbrev pub EndTells : Plan → Made → Moment → Run → Moment → Run → Result UpdateAnswer Stop → Type 0
+abbrev pub EndTells : Plan → Made → Moment → Run → Moment → Run → Result UpdateAnswer UpdateStop → Type 0
 EndTells plan made before run after later result = BothTold (λ old new. (u : Update) (entry : Moment)
     (events : List ChildEvent) → IsUpdateHere plan made run u → Distinguishes u new.past
     → IsInRun u entry before run old events

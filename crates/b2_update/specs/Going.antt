@@ -16,13 +16,13 @@ use Rattle.b2_runs.specs.UpdateAnswers.{CountsStay, WaitFailed}
 use Rattle.b2_sched.specs.declared.state.State.{State}
 use Rattle.b2_sched.specs.declared.state.State.TheVariants.{Unjudged, Stale, Running, Settled, Failed}
 use Rattle.b2_sched.specs.Schedules.{Schedule, IsRunning, CanLook, QuitsNow}
-use Rattle.b2_sched.specs.Calls.{StartsNone}
+use Rattle.b2_sched.specs.SchedulerCalls.{StartsNone}
 use Rattle.b2_facts.specs.Facts.{IsAbout}
 use Rattle.b2_looks.specs.Looks.{AreLooks, Follows}
 use Rattle.b2_turns.specs.Starts.{settles}
 use Rattle.b2_turns.specs.Ends.{OutputsStand}
 use Rattle.b2_update.specs.declared.run.Run.{Run}
-use Rattle.b2_update.specs.declared.stop.Stop.{Stop}
+use Rattle.b2_update.specs.declared.stop.UpdateStop.{UpdateStop}
 use Rattle.b2_update.specs.Stops.{StopCausedBy}
 
 -- ---- what has happened
@@ -113,7 +113,7 @@ AreToWaitFor count entry here =
     × (length here.host.children.running ≡ count + 1))
 
 -- An update has stopped, and so many children are to be waited for.
-pub record Halts (plan : Plan) (jobs count : ℕ) (entry here : Moment) (stop : Stop) : Type 0 where
+pub record Halts (plan : Plan) (jobs count : ℕ) (entry here : Moment) (stop : UpdateStop) : Type 0 where
   pub events : List ChildEvent
   pub short : List ℕ
   pub happened : HasHappened plan jobs entry here events short

@@ -18,7 +18,7 @@ use Rattle.b2_runs.specs.Reports.{is_good_end, event_lines, TellsStarts}
 use Rattle.b2_runs.specs.Moments.{Moment}
 use Rattle.b2_runs.specs.UpdateAnswers.{StopsWithLog}
 use Rattle.b2_drain.specs.Drains.{Made, HasStopped}
-use Rattle.b2_facts.specs.declared.stop.Stop.TheVariants as files
+use Rattle.b2_facts.specs.declared.stop.FilesStop.TheVariants as files
 use Rattle.b2_facts.specs.Facts.{Knowledge, path_at}
 use Rattle.b2_reach.specs.declared.sights.Sights.{Sights}
 use Rattle.b2_looks.specs.declared.looks.Looks.{Looks}
@@ -27,8 +27,8 @@ use Rattle.b2_looks.specs.UnderWay.{IsUnderWay, AreTrueLooks, IsUpdateBy}
 use Rattle.b2_turns.specs.Ends.{HasEnded}
 use Rattle.b2_endings.specs.Writings.{Adds}
 use Rattle.b2_update.specs.declared.run.Run.{Run}
-use Rattle.b2_update.specs.declared.stop.Stop.{Stop}
-use Rattle.b2_update.specs.declared.stop.Stop.TheVariants as stops
+use Rattle.b2_update.specs.declared.stop.UpdateStop.{UpdateStop}
+use Rattle.b2_update.specs.declared.stop.UpdateStop.TheVariants as stops
 
 -- the update is one of this plan, asked for so, over a host that makes files so
 pub record IsUpdateHere (plan : Plan) (made : Made) (run : Run) (u : Update) : Type 0 where
@@ -84,7 +84,7 @@ pub record HasHeardInRun (u : Update) (i : ℕ) (well : Bool) (entry here : Mome
 -- ---- where an update has stopped
 
 -- what was written before a stop
-abbrev pub StopWritten : Update → List ChildEvent → Folder → Stop → List ℕ → Type 0
+abbrev pub StopWritten : Update → List ChildEvent → Folder → UpdateStop → List ℕ → Type 0
 StopWritten u events now (stops.Files files.Host) part = TellsStarts u.build.steps events part
 StopWritten u events now (stops.Files files.OutOfMemory) part =
     TellsStarts u.build.steps events part ⊎ StopsWithLog u events now part
@@ -92,7 +92,7 @@ StopWritten u events now (stops.Files (files.TooBig number size)) part = TellsSt
 StopWritten u events now stops.Sink part = StopsWithLog u events now part
 
 -- a file that stopped an update is too big
-abbrev pub StopTooBig : Update → List ChildEvent → Folder → Knowledge → Stop → Type 0
+abbrev pub StopTooBig : Update → List ChildEvent → Folder → Knowledge → UpdateStop → Type 0
 StopTooBig u events now f (stops.Files files.Host) = ⊤
 StopTooBig u events now f (stops.Files files.OutOfMemory) = ⊤
 StopTooBig u events now f (stops.Files (files.TooBig number size)) =
@@ -100,7 +100,7 @@ StopTooBig u events now f (stops.Files (files.TooBig number size)) =
 StopTooBig u events now f stops.Sink = ⊤
 
 -- An update has stopped after these events.
-pub record HasHalted (u : Update) (entry here : Moment) (f : Knowledge) (disk : Disk) (stop : Stop) : Type 0 where
+pub record HasHalted (u : Update) (entry here : Moment) (f : Knowledge) (disk : Disk) (stop : UpdateStop) : Type 0 where
   pub events : List ChildEvent
   pub are : here.host.children.events ≡ entry.host.children.events ++ events
   pub given : List Given
@@ -116,7 +116,7 @@ pub record HasHalted (u : Update) (entry here : Moment) (f : Knowledge) (disk : 
 -- ---- what calls tell
 
 -- an update that is between two events is so after a call, by more events perhaps, or has stopped
-abbrev pub Tells : {T : Type 0} → Plan → Made → Moment → Run → Moment → Run → Result T Stop → Type 0
+abbrev pub Tells : {T : Type 0} → Plan → Made → Moment → Run → Moment → Run → Result T UpdateStop → Type 0
 Tells plan made before run after later result = BothTold (λ old new. (u : Update) (entry : Moment)
     (events : List ChildEvent) → IsUpdateHere plan made run u → Distinguishes u new.past
     → IsInRun u entry before run old events
@@ -124,7 +124,7 @@ Tells plan made before run after later result = BothTold (λ old new. (u : Updat
     (λ stop. HasHalted u entry after later.sights.facts new stop)) before.host.disk after.host.disk
 
 -- what a wait tells: a child has ended
-abbrev pub WaitTells : Plan → Made → Moment → Run → Moment → Run → Result (ℕ × Bool) Stop → Type 0
+abbrev pub WaitTells : Plan → Made → Moment → Run → Moment → Run → Result (ℕ × Bool) UpdateStop → Type 0
 WaitTells plan made before run after later result = BothTold (λ old new. (u : Update) (entry : Moment)
     (events : List ChildEvent) → IsUpdateHere plan made run u → Distinguishes u new.past
     → IsInRun u entry before run old events
@@ -132,7 +132,7 @@ WaitTells plan made before run after later result = BothTold (λ old new. (u : U
     (λ stop. HasHalted u entry after later.sights.facts new stop)) before.host.disk after.host.disk
 
 -- what settling a step tells whose child has ended: it was updated where it ended well
-abbrev pub SettleTells : Plan → Made → ℕ → Bool → Moment → Run → Moment → Run → Result Bool Stop → Type 0
+abbrev pub SettleTells : Plan → Made → ℕ → Bool → Moment → Run → Moment → Run → Result Bool UpdateStop → Type 0
 SettleTells plan made i well before run after later result = BothTold (λ old new. (u : Update) (entry : Moment)
     (events : List ChildEvent) → IsUpdateHere plan made run u → Distinguishes u new.past
     → HasHeardInRun u i well entry before run old events

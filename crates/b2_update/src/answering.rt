@@ -12,12 +12,12 @@ ghost use Rattle.b2_update.specs.Going.{IsGoing, Halts, SameWay, Rests, NoneStar
 ghost use Rattle.b2_update.specs.Endings.{HasCome, EndTells, EndingSays, IsStopAnswer};
 
 use crate::run::Run;
-use crate::stop::{Stop, sink_stop};
+use crate::stop::{UpdateStop, sink_stop};
 use crate::update_answer::UpdateAnswer;
 use b2_endings::ending::{Ending, ending_of};
 use b2_endings::failed_lists::FailedLists;
 use b2_endings::lists::{is_empty, tell_end};
-use b2_facts::stop::Stop as FilesStop;
+use b2_facts::stop::FilesStop;
 use b2_host::children::Children;
 use b2_host::sink::Sink;
 use b2_plan::plan::Plan;
@@ -41,7 +41,7 @@ fn tell_lists<S: Sink>(
     out: &mut S,
     updated: usize,
     lists: &FailedLists,
-) -> Result<(), Stop>
+) -> Result<(), UpdateStop>
     ensures { SinkSays (end_lines plan.now.steps updated (lists_of lists.now)) (S.output out.old) (S.output out.new) result }
 {
     match tell_end(alloc, plan.steps.as_slice(), out, updated, lists) {
@@ -57,7 +57,7 @@ fn answer_ending<S: Sink>(
     out: &mut S,
     updated: usize,
     ending: Ending,
-) -> Result<UpdateAnswer, Stop>
+) -> Result<UpdateAnswer, UpdateStop>
     ensures { EndingSays plan.now.steps updated ending (S.output out.old) (S.output out.new) result }
 {
     match ending {
@@ -77,7 +77,7 @@ pub fn end_run<H: Children, S: Sink>(
     run: &mut Run,
     host: &mut H,
     out: &mut S,
-) -> Result<UpdateAnswer, Stop>
+) -> Result<UpdateAnswer, UpdateStop>
     requires apart { Apart plan.now.steps plan.now.roots }
     requires going { (entry : Moment) × IsGoing plan.now entry (moment (H.outside host.old) (S.output out.old)) run.old }
     requires rests { Rests run.old }
@@ -101,14 +101,14 @@ pub fn end_run<H: Children, S: Sink>(
 
 /// The answer of an update that was stopped, and whose children were waited for. A wait that failed behind a file that is too
 /// big is the first fault.
-pub fn stopped(run: &Run, stop: Stop, all_waited: bool) -> UpdateAnswer
+pub fn stopped(run: &Run, stop: UpdateStop, all_waited: bool) -> UpdateAnswer
     ensures { IsStopAnswer run.now.sights.facts stop all_waited result }
 {
     match stop {
-        Stop::Sink => UpdateAnswer::SinkFault,
-        Stop::Files(FilesStop::Host) => UpdateAnswer::HostFault,
-        Stop::Files(FilesStop::OutOfMemory) => UpdateAnswer::OutOfMemory,
-        Stop::Files(FilesStop::TooBig { number, size }) => {
+        UpdateStop::Sink => UpdateAnswer::SinkFault,
+        UpdateStop::Files(FilesStop::Host) => UpdateAnswer::HostFault,
+        UpdateStop::Files(FilesStop::OutOfMemory) => UpdateAnswer::OutOfMemory,
+        UpdateStop::Files(FilesStop::TooBig { number, size }) => {
             if !all_waited {
                 return UpdateAnswer::HostFault;
             }

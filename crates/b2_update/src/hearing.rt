@@ -11,11 +11,11 @@ ghost use Rattle.b2_update.specs.Going.{IsGoing, HasHeard, EndsAs, Halts, SameWa
 ghost use Rattle.b2_update.specs.InRun.{Tells, WaitTells, SettleTells};
 
 use crate::run::Run;
-use crate::stop::{Stop, sink_stop};
+use crate::stop::{UpdateStop, sink_stop};
 use b2_board::steps::step_of;
 use b2_endings::lines::failed_text;
 use b2_endings::lists::write_line;
-use b2_facts::stop::Stop as FilesStop;
+use b2_facts::stop::FilesStop;
 use b2_host::children::Children;
 use b2_host::fault::IoFault;
 use b2_host::sink::Sink;
@@ -26,7 +26,7 @@ use b2_turns::laws::end_comes;
 use std::alloc::Global;
 
 /// Waits for a child. A wait that failed is not tried again.
-fn wait<H: Children>(_plan: &Plan, run: &mut Run, host: &mut H) -> Result<(u32, bool), Stop>
+fn wait<H: Children>(_plan: &Plan, run: &mut Run, host: &mut H) -> Result<(u32, bool), UpdateStop>
     requires apart { Apart _plan.now.steps _plan.now.roots }
     requires going { (entry here : Moment) × (here.host ≡ H.outside host.old) × IsGoing _plan.now entry here run.old }
     requires rests { Rests run.old }
@@ -48,7 +48,7 @@ fn wait<H: Children>(_plan: &Plan, run: &mut Run, host: &mut H) -> Result<(u32, 
     run.waits -= 1;
     match host.wait_one() {
         Ok(ended) => Ok(ended),
-        Err(_failed) => Err(Stop::Files(FilesStop::Host)),
+        Err(_failed) => Err(UpdateStop::Files(FilesStop::Host)),
     }
 }
 
@@ -68,7 +68,7 @@ fn fail<H: Children, S: Sink>(
     host: &mut H,
     out: &mut S,
     number: u32,
-) -> Result<bool, Stop>
+) -> Result<bool, UpdateStop>
     requires apart { Apart plan.now.steps plan.now.roots }
     requires heard { (entry : Moment) × (well : Bool)
         × HasHeard plan.now number well entry (moment (H.outside host.old) (S.output out.old)) run.old }
@@ -101,7 +101,7 @@ fn settle_good<H: Children, S: Sink>(
     host: &mut H,
     out: &mut S,
     number: u32,
-) -> Result<bool, Stop>
+) -> Result<bool, UpdateStop>
     requires apart { Apart plan.now.steps plan.now.roots }
     requires heard { (entry : Moment)
         × HasHeard plan.now number true entry (moment (H.outside host.old) (S.output out.old)) run.old }
@@ -132,7 +132,7 @@ fn settle<H: Children, S: Sink>(
     out: &mut S,
     number: u32,
     well: bool,
-) -> Result<bool, Stop>
+) -> Result<bool, UpdateStop>
     requires apart { Apart plan.now.steps plan.now.roots }
     requires heard { (entry : Moment)
         × HasHeard plan.now number well entry (moment (H.outside host.old) (S.output out.old)) run.old }
@@ -161,7 +161,7 @@ pub fn hear<H: Children, S: Sink>(
     run: &mut Run,
     host: &mut H,
     out: &mut S,
-) -> Result<(), Stop>
+) -> Result<(), UpdateStop>
     requires apart { Apart plan.now.steps plan.now.roots }
     requires going { (entry : Moment) × IsGoing plan.now entry (moment (H.outside host.old) (S.output out.old)) run.old }
     requires rests { Rests run.old }

@@ -14,7 +14,7 @@ ghost use Rattle.b2_host.specs.Output.{with_written};
 ghost use Rattle.b2_plan.specs.Plans.{Apart};
 ghost use Rattle.b2_runs.specs.Moments.{Moment};
 ghost use Rattle.b2_sched.specs.Schedules.{QuitsNow};
-ghost use Rattle.b2_sched.specs.Calls.{StartsNext};
+ghost use Rattle.b2_sched.specs.SchedulerCalls.{StartsNext};
 ghost use Rattle.b2_sched.specs.Sound.{IsSound};
 ghost use Rattle.b2_facts.specs.Facts.{IsAbout, path_at};
 ghost use Rattle.b2_verdicts.specs.Sights.{AreNumbers};
@@ -28,7 +28,7 @@ ghost use Rattle.b2_update.specs.Going.{IsGoing, Halts, SameWay, Rests, NoneStar
 ghost use Rattle.b2_update.specs.InRun.{Tells};
 
 use crate::run::Run;
-use crate::stop::{Stop, host_stop, sink_stop};
+use crate::stop::{UpdateStop, host_stop, sink_stop};
 use b2_base::fault::OutOfMemory;
 use b2_base::path::Path;
 use b2_board::steps::step_of;
@@ -86,7 +86,7 @@ fn start_child<H: Children>(
     run: &mut Run,
     host: &mut H,
     number: u32,
-) -> Result<(), Stop>
+) -> Result<(), UpdateStop>
     requires within { number < length run.old.looks.ready.items }
     requires kept { (numbers : StepNumbers) × (ready_at run.old.looks number ≡ Some numbers)
         × AreNumbers run.old.sights.facts numbers.ins }
@@ -122,7 +122,7 @@ fn start_child<H: Children>(
 }
 
 /// Writes the line of a start, where there is one.
-fn tell_start<S: Sink>(out: &mut S, line: &str) -> Result<(), Stop>
+fn tell_start<S: Sink>(out: &mut S, line: &str) -> Result<(), UpdateStop>
     ensures ok { OnOk result (S.output out.new ≡ with_written line.now (S.output out.old)) }
     ensures some { OnErr result (line.now ≢ []) }
     ensures stopped { IfErr result (λ stop. (fault : IoFault) × (stop ≡ sink_stop_of fault)
@@ -144,7 +144,7 @@ fn start_next<H: Children, S: Sink>(
     run: &mut Run,
     host: &mut H,
     out: &mut S,
-) -> Result<bool, Stop>
+) -> Result<bool, UpdateStop>
     requires apart { Apart plan.now.steps plan.now.roots }
     requires going { (entry : Moment) × IsGoing plan.now entry (moment (H.outside host.old) (S.output out.old)) run.old }
     requires rests { Rests run.old }
@@ -180,7 +180,7 @@ pub fn start_all<H: Children, S: Sink>(
     run: &mut Run,
     host: &mut H,
     out: &mut S,
-) -> Result<(), Stop>
+) -> Result<(), UpdateStop>
     requires apart { Apart plan.now.steps plan.now.roots }
     requires going { (entry : Moment) × IsGoing plan.now entry (moment (H.outside host.old) (S.output out.old)) run.old }
     requires rests { Rests run.old }

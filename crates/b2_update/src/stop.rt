@@ -3,12 +3,12 @@ ghost use Rattle.std.specs.Prelude.{◌≡◌};
 ghost use Rattle.b2_update.specs.Stops.{host_stop_of, sink_stop_of};
 
 use b2_base::fault::OutOfMemory;
-use b2_facts::stop::Stop as FilesStop;
+use b2_facts::stop::FilesStop;
 use b2_host::fault::{Failed, IoFault};
 
 /// Why an update stopped.
 #[derive(Clone, Copy)]
-pub enum Stop {
+pub enum UpdateStop {
     /// Work on files or children stopped.
     Files(FilesStop),
     /// The sink failed.
@@ -16,44 +16,44 @@ pub enum Stop {
 }
 
 /// What a fault of the host stops an update with.
-pub fn host_stop(fault: IoFault) -> Stop
+pub fn host_stop(fault: IoFault) -> UpdateStop
     ensures { result ≡ host_stop_of fault }
 {
     match fault {
-        IoFault::Failed => Stop::Files(FilesStop::Host),
-        IoFault::OutOfMemory => Stop::Files(FilesStop::OutOfMemory),
+        IoFault::Failed => UpdateStop::Files(FilesStop::Host),
+        IoFault::OutOfMemory => UpdateStop::Files(FilesStop::OutOfMemory),
     }
 }
 
 /// What a fault of the sink stops an update with.
-pub fn sink_stop(fault: IoFault) -> Stop
+pub fn sink_stop(fault: IoFault) -> UpdateStop
     ensures { result ≡ sink_stop_of fault }
 {
     match fault {
-        IoFault::Failed => Stop::Sink,
-        IoFault::OutOfMemory => Stop::Files(FilesStop::OutOfMemory),
+        IoFault::Failed => UpdateStop::Sink,
+        IoFault::OutOfMemory => UpdateStop::Files(FilesStop::OutOfMemory),
     }
 }
 
-impl From<FilesStop> for Stop {
-    ghost use Rattle.b2_update.specs.declared.stop.Stop.TheVariants as stops;
+impl From<FilesStop> for UpdateStop {
+    ghost use Rattle.b2_update.specs.declared.stop.UpdateStop.TheVariants as stops;
     ghost use Rattle.std.specs.Prelude.{◌≡◌};
 
     ghost from_gives = { λ stop made. made ≡ stops.Files stop };
 
-    fn from(stop: FilesStop) -> Stop {
-        Stop::Files(stop)
+    fn from(stop: FilesStop) -> UpdateStop {
+        UpdateStop::Files(stop)
     }
 }
 
-impl From<OutOfMemory> for Stop {
-    ghost use Rattle.b2_update.specs.declared.stop.Stop.TheVariants as stops;
-    ghost use Rattle.b2_facts.specs.declared.stop.Stop.TheVariants as files;
+impl From<OutOfMemory> for UpdateStop {
+    ghost use Rattle.b2_update.specs.declared.stop.UpdateStop.TheVariants as stops;
+    ghost use Rattle.b2_facts.specs.declared.stop.FilesStop.TheVariants as files;
     ghost use Rattle.std.specs.Prelude.{◌≡◌};
 
     ghost from_gives = { λ _ made. made ≡ stops.Files files.OutOfMemory };
 
-    fn from(_error: OutOfMemory) -> Stop {
-        Stop::Files(FilesStop::OutOfMemory)
+    fn from(_error: OutOfMemory) -> UpdateStop {
+        UpdateStop::Files(FilesStop::OutOfMemory)
     }
 }

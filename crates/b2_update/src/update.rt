@@ -17,7 +17,7 @@ ghost use Rattle.b2_drain.specs.Drains.{Made};
 use crate::answering::{end_run, stopped};
 use crate::options::Options;
 use crate::run::Run;
-use crate::stop::{Stop, host_stop};
+use crate::stop::{UpdateStop, host_stop};
 use crate::update_answer::UpdateAnswer;
 use crate::working::work;
 use b2_drain::drain::drain;
@@ -27,12 +27,12 @@ use b2_host::fault::IoFault;
 use b2_host::files::Files;
 use b2_host::sink::Sink;
 use b2_journal::journal::Journal;
-use b2_journal::rule::Rule;
+use b2_journal::opening_rule::OpeningRule;
 use b2_looks::looks::Looks;
 use b2_paths::marks::Marks;
 use b2_plan::plan::Plan;
 use b2_reach::sights::Sights;
-use b2_verdicts::way::Way;
+use b2_verdicts::judging_mode::JudgingMode;
 use std::alloc::Global;
 
 /// Opens the log, and begins an update.
@@ -54,12 +54,12 @@ fn begin<F: Files>(
     ensures told { (output : Output) (made : Made) → BeginTells plan.now options made
         (moment (F.outside files.old) output) (moment (F.outside files.new) output) result }
 {
-    let way = Way {
+    let way = JudgingMode {
         all: options.all,
         by_digest: options.by_digest,
     };
     let looks = Looks::new(alloc, plan, way, options.jobs)?;
-    let journal = Journal::open(alloc, files, Rule::Update)?;
+    let journal = Journal::open(alloc, files, OpeningRule::Update)?;
     Ok(Run {
         looks,
         sights: Sights {
@@ -81,7 +81,7 @@ fn run_steps<H: Children, S: Sink>(
     run: &mut Run,
     host: &mut H,
     out: &mut S,
-) -> Result<UpdateAnswer, Stop>
+) -> Result<UpdateAnswer, UpdateStop>
     requires apart { Apart plan.now.steps plan.now.roots }
     requires going { (entry : Moment) × IsGoing plan.now entry (moment (H.outside host.old) (S.output out.old)) run.old }
     requires jobs { 1 ≤ run.old.looks.board.sched.jobs }

@@ -10,7 +10,7 @@ ghost use Rattle.b2_update.specs.InRun.{Tells};
 use crate::hearing::hear;
 use crate::run::Run;
 use crate::starting::start_all;
-use crate::stop::Stop;
+use crate::stop::UpdateStop;
 use b2_host::children::Children;
 use b2_host::sink::Sink;
 use b2_plan::plan::Plan;
@@ -23,7 +23,7 @@ fn go_on<H: Children, S: Sink>(
     run: &mut Run,
     host: &mut H,
     out: &mut S,
-) -> Result<(), Stop>
+) -> Result<(), UpdateStop>
     requires apart { Apart plan.now.steps plan.now.roots }
     requires going { (entry : Moment) × IsGoing plan.now entry (moment (H.outside host.old) (S.output out.old)) run.old }
     ensures way { OnOk result (SameWay run.old run.new) }
@@ -50,7 +50,7 @@ fn turn<H: Children, S: Sink>(
     run: &mut Run,
     host: &mut H,
     out: &mut S,
-) -> Result<(), Stop>
+) -> Result<(), UpdateStop>
     requires apart { Apart plan.now.steps plan.now.roots }
     requires going { (entry : Moment) × IsGoing plan.now entry (moment (H.outside host.old) (S.output out.old)) run.old }
     requires rests { Rests run.old }
@@ -80,7 +80,7 @@ pub fn work<H: Children, S: Sink>(
     run: &mut Run,
     host: &mut H,
     out: &mut S,
-) -> Result<(), Stop>
+) -> Result<(), UpdateStop>
     requires apart { Apart plan.now.steps plan.now.roots }
     requires going { (entry : Moment) × IsGoing plan.now entry (moment (H.outside host.old) (S.output out.old)) run.old }
     ensures way { OnOk result (SameWay run.old run.new) }

@@ -11,8 +11,8 @@ use Rattle.b2_plan.specs.declared.step.Step.{Step}
 use Rattle.b2_facts.specs.declared.fault.ReadFault.{ReadFault}
 use Rattle.b2_facts.specs.declared.fault.ReadFault.TheVariants as faults
 use Rattle.b2_facts.specs.declared.file_facts.FileFacts.{FileFacts}
-use Rattle.b2_facts.specs.declared.stop.Stop.{Stop}
-use Rattle.b2_facts.specs.declared.stop.Stop.TheVariants as stops
+use Rattle.b2_facts.specs.declared.stop.FilesStop.{FilesStop}
+use Rattle.b2_facts.specs.declared.stop.FilesStop.TheVariants as stops
 use Rattle.b2_facts.specs.Facts.{Knowledge, IsNumber, IsFile, path_at, file_at}
 use Rattle.b2_facts.specs.Growth.{Grows, Learns, OfOne, IncludesStay}
 use Rattle.b2_facts.specs.Truth.{StaysTrue}
@@ -21,7 +21,7 @@ use Rattle.b2_facts.specs.Stops.{stop_of_read, StopTold}
 use Rattle.b2_facts.proofs.ListsAtPlaces.{some_is, get_some}
 use Rattle.b2_verdicts.specs.declared.step_numbers.StepNumbers.{StepNumbers}
 use Rattle.b2_verdicts.specs.Sights.{digest_in}
-use Rattle.b2_verdicts.specs.Calls.{IsOfStep, IsUndigested, ReadsOnly, IsTooBigOf, KnowsMore, Always, Asks}
+use Rattle.b2_verdicts.specs.VerdictCalls.{IsOfStep, IsUndigested, ReadsOnly, IsTooBigOf, KnowsMore, Always, Asks}
 use Rattle.b2_verdicts.specs.Digested.{IsGoneIfUnknown}
 use Rattle.b2_verdicts.proofs.WhatIsKnownStays.{unknown_before}
 use Rattle.b2_verdicts.proofs.MoreIsKnown.{knows_then, knows_weaker, knows_grows, knows_by, outs_of_step, ins_of_step}
@@ -48,7 +48,7 @@ pub asks_memory : {T U : Type 0} (P : ℕ → Type 0) (Q : Folder → Type 0) (f
 asks_memory P Q f g x y a asks = record { effect = asks.effect; counts = asks.counts; learns = asks.learns; too_big = told_none x.disk }
 
 -- a stop that a call answered is handed on
-pub asks_stop : {T U : Type 0} (P : ℕ → Type 0) (Q : Folder → Type 0) (f g : Knowledge) (x y : Outside) (stop : Stop) → Asks {T = T} P Q f g x y (Err stop) → Asks {T = U} P Q f g x y (Err stop)
+pub asks_stop : {T U : Type 0} (P : ℕ → Type 0) (Q : Folder → Type 0) (f g : Knowledge) (x y : Outside) (stop : FilesStop) → Asks {T = T} P Q f g x y (Err stop) → Asks {T = U} P Q f g x y (Err stop)
 asks_stop P Q f g x y stops.Host asks = record { effect = asks.effect; counts = asks.counts; learns = asks.learns; too_big = asks.too_big }
 asks_stop P Q f g x y stops.OutOfMemory asks = record { effect = asks.effect; counts = asks.counts; learns = asks.learns; too_big = asks.too_big }
 asks_stop P Q f g x y (stops.TooBig number size) asks = record { effect = asks.effect; counts = asks.counts; learns = asks.learns; too_big = asks.too_big }
@@ -61,17 +61,17 @@ asks_quiet P Q f g x y a same knows = record { effect = reads_none (IsUndigested
 pub asks_look_fails : (T : Type 0) {U : Type 0} (P : ℕ → Type 0) (Q : Folder → Type 0) (f g : Knowledge) (x y : Outside) (e : Failed) → Looks {T = T} x y (Err e) → KnowsMore P x.disk Q f g → Asks {T = U} P Q f g x y (Err stops.Host)
 asks_look_fails T P Q f g x y e failed knows = record { effect = reads_look {T = T} (IsUndigested P f g) x y (Err e) failed; counts = (failed.may_fail, failed.rose); learns = knows; too_big = told_none x.disk }
 
-counts_then : {U : Type 0} (x y z : Outside) (r : Result U Stop) → y.risks ≡ x.risks → y.faults ≡ x.faults → StopTold y z r → StopTold x z r
+counts_then : {U : Type 0} (x y z : Outside) (r : Result U FilesStop) → y.risks ≡ x.risks → y.faults ≡ x.faults → StopTold y z r → StopTold x z r
 counts_then x y z (Ok b) risks same told = told ∙ same
 counts_then x y z (Err stops.Host) risks same told = (ap (λ (r : Risks). r.may_fail) (sym risks) ∙ told.0, subst (λ n. Rose n z.faults) same told.1)
 counts_then x y z (Err stops.OutOfMemory) risks same told = told ∙ same
 counts_then x y z (Err (stops.TooBig number size)) risks same told = told ∙ same
 
-big_then : {U : Type 0} (P : ℕ → Type 0) (h : Knowledge) (x y : Option Disk) (r : Result U Stop) → y ≡ x → IfErr r (λ stop. IfSome y (λ disk. IsTooBigOf P h disk.now stop)) → IfErr r (λ stop. IfSome x (λ disk. IsTooBigOf P h disk.now stop))
+big_then : {U : Type 0} (P : ℕ → Type 0) (h : Knowledge) (x y : Option Disk) (r : Result U FilesStop) → y ≡ x → IfErr r (λ stop. IfSome y (λ disk. IsTooBigOf P h disk.now stop)) → IfErr r (λ stop. IfSome x (λ disk. IsTooBigOf P h disk.now stop))
 big_then P h x y r same told = subst (λ d. IfErr r (λ stop. IfSome d (λ disk. IsTooBigOf P h disk.now stop))) same told
 
 -- files are asked for, and then more of them
-pub asks_then : {T U : Type 0} (P : ℕ → Type 0) (Q : Folder → Type 0) (f g h : Knowledge) (x y z : Outside) (a : T) (r : Result U Stop) → Asks {T = T} P Q f g x y (Ok a) → Asks {T = U} P Q g h y z r → Asks {T = U} P Q f h x z r
+pub asks_then : {T U : Type 0} (P : ℕ → Type 0) (Q : Folder → Type 0) (f g h : Knowledge) (x y z : Outside) (a : T) (r : Result U FilesStop) → Asks {T = T} P Q f g x y (Ok a) → Asks {T = U} P Q g h y z r → Asks {T = U} P Q f h x z r
 asks_then {T} {U} P Q f g h x y z a r first next = record {
   effect = reads_then (IsUndigested P f h) x y z
       (reads_weaker (IsUndigested P f g) (IsUndigested P f h) x y (read_before P f g h (knows_grows P y.disk Q g h next.learns)) first.effect)
@@ -81,7 +81,7 @@ asks_then {T} {U} P Q f g h x y z a r first next = record {
   too_big = big_then {U = U} P h x.disk y.disk r first.effect.files next.too_big;
 }
 
-big_weaker : {U : Type 0} (P R : ℕ → Type 0) (g : Knowledge) (x : Option Disk) (r : Result U Stop) → ((n : ℕ) → P n → R n) → IfErr r (λ stop. IfSome x (λ disk. IsTooBigOf P g disk.now stop)) → IfErr r (λ stop. IfSome x (λ disk. IsTooBigOf R g disk.now stop))
+big_weaker : {U : Type 0} (P R : ℕ → Type 0) (g : Knowledge) (x : Option Disk) (r : Result U FilesStop) → ((n : ℕ) → P n → R n) → IfErr r (λ stop. IfSome x (λ disk. IsTooBigOf P g disk.now stop)) → IfErr r (λ stop. IfSome x (λ disk. IsTooBigOf R g disk.now stop))
 big_weaker P R g x (Ok a) more told = tt
 big_weaker P R g None (Err stop) more told = tt
 big_weaker P R g (Some d) (Err stops.Host) more told = tt
@@ -89,7 +89,7 @@ big_weaker P R g (Some d) (Err stops.OutOfMemory) more told = tt
 big_weaker P R g (Some d) (Err (stops.TooBig number size)) more told = (more number told.0, told.1)
 
 -- of more files, or where more is asked
-pub asks_weaker : {T : Type 0} (P R : ℕ → Type 0) (Q S : Folder → Type 0) (f g : Knowledge) (x y : Outside) (r : Result T Stop) → ((n : ℕ) → P n → R n) → ((now : Folder) → S now → Q now) → Asks {T = T} P Q f g x y r → Asks {T = T} R S f g x y r
+pub asks_weaker : {T : Type 0} (P R : ℕ → Type 0) (Q S : Folder → Type 0) (f g : Knowledge) (x y : Outside) (r : Result T FilesStop) → ((n : ℕ) → P n → R n) → ((now : Folder) → S now → Q now) → Asks {T = T} P Q f g x y r → Asks {T = T} R S f g x y r
 asks_weaker {T} P R Q S f g x y r more asks_for asks = record {
   effect = reads_weaker (IsUndigested P f g) (IsUndigested R f g) x y (λ path p. (p.0, more p.0 p.1, p.2, p.3)) asks.effect;
   counts = asks.counts;
@@ -98,38 +98,38 @@ asks_weaker {T} P R Q S f g x y r more asks_for asks = record {
 }
 
 -- more became known without the host, and then it was asked
-pub asks_after : {T : Type 0} (P : ℕ → Type 0) (Q : Folder → Type 0) (f g h : Knowledge) (x y : Outside) (r : Result T Stop) → KnowsMore P x.disk Q f g → Asks {T = T} P Always g h x y r → Asks {T = T} P Q f h x y r
+pub asks_after : {T : Type 0} (P : ℕ → Type 0) (Q : Folder → Type 0) (f g h : Knowledge) (x y : Outside) (r : Result T FilesStop) → KnowsMore P x.disk Q f g → Asks {T = T} P Always g h x y r → Asks {T = T} P Q f h x y r
 asks_after {T} P Q f g h x y r knows asks =
     asks_then {T = Unit {0}} {U = T} P Q f g h x x y tt r (asks_quiet P Q f g x x tt refl knows) (asks_weaker {T = T} P P Always Q g h x y r (λ n p. p) (λ now q. tt) asks)
 
 -- more became known by looks, and then files are asked for
-pub asks_behind : {T : Type 0} (P : ℕ → Type 0) (Q : Folder → Type 0) (f g h : Knowledge) (x y z : Outside) (r : Result T Stop) → y ≡ x → KnowsMore P x.disk Q f g → Asks {T = T} P Q g h y z r → Asks {T = T} P Q f h x z r
+pub asks_behind : {T : Type 0} (P : ℕ → Type 0) (Q : Folder → Type 0) (f g h : Knowledge) (x y z : Outside) (r : Result T FilesStop) → y ≡ x → KnowsMore P x.disk Q f g → Asks {T = T} P Q g h y z r → Asks {T = T} P Q f h x z r
 asks_behind {T} P Q f g h x y z r same knows asks = asks_then {T = Unit {0}} {U = T} P Q f g h x y z tt r (asks_quiet P Q f g x y tt same knows) asks
 
 -- ---- files of a step
 
-pub asks_outs : {T : Type 0} (numbers : StepNumbers) (Q : Folder → Type 0) (f g : Knowledge) (x y : Outside) (r : Result T Stop) (ns : List ℕ) → ns ≡ numbers.outs → Asks {T = T} (Contains ns) Q f g x y r → Asks {T = T} (IsOfStep numbers) Q f g x y r
+pub asks_outs : {T : Type 0} (numbers : StepNumbers) (Q : Folder → Type 0) (f g : Knowledge) (x y : Outside) (r : Result T FilesStop) (ns : List ℕ) → ns ≡ numbers.outs → Asks {T = T} (Contains ns) Q f g x y r → Asks {T = T} (IsOfStep numbers) Q f g x y r
 asks_outs {T} numbers Q f g x y r ns e asks = asks_weaker {T = T} (Contains ns) (IsOfStep numbers) Q Q f g x y r (outs_of_step numbers ns e) (λ now q. q) asks
 
-pub asks_ins : {T : Type 0} (numbers : StepNumbers) (Q : Folder → Type 0) (f g : Knowledge) (x y : Outside) (r : Result T Stop) (ns : List ℕ) → ns ≡ numbers.ins → Asks {T = T} (Contains ns) Q f g x y r → Asks {T = T} (IsOfStep numbers) Q f g x y r
+pub asks_ins : {T : Type 0} (numbers : StepNumbers) (Q : Folder → Type 0) (f g : Knowledge) (x y : Outside) (r : Result T FilesStop) (ns : List ℕ) → ns ≡ numbers.ins → Asks {T = T} (Contains ns) Q f g x y r → Asks {T = T} (IsOfStep numbers) Q f g x y r
 asks_ins {T} numbers Q f g x y r ns e asks = asks_weaker {T = T} (Contains ns) (IsOfStep numbers) Q Q f g x y r (ins_of_step numbers ns e) (λ now q. q) asks
 
 -- ---- exits
 
 -- a stop is handed on
-pub asks_exit : {T U : Type 0} (P : ℕ → Type 0) (Q : Folder → Type 0) (f g : Knowledge) (x y : Outside) (stop : Stop) (r : Result U Stop) → r ≡ Err stop → Asks {T = T} P Q f g x y (Err stop) → Asks {T = U} P Q f g x y r
+pub asks_exit : {T U : Type 0} (P : ℕ → Type 0) (Q : Folder → Type 0) (f g : Knowledge) (x y : Outside) (stop : FilesStop) (r : Result U FilesStop) → r ≡ Err stop → Asks {T = T} P Q f g x y (Err stop) → Asks {T = U} P Q f g x y r
 asks_exit {T} {U} P Q f g x y stop r e asks = subst (Asks {T = U} P Q f g x y) (sym e) (asks_stop {T = T} {U = U} P Q f g x y stop asks)
 
 -- memory ran out before the host was asked
-pub asks_no_memory : {U : Type 0} (P : ℕ → Type 0) (Q : Folder → Type 0) (f g : Knowledge) (x : Outside) (r : Result U Stop) → r ≡ Err stops.OutOfMemory → KnowsMore P x.disk Q f g → Asks {T = U} P Q f g x x r
+pub asks_no_memory : {U : Type 0} (P : ℕ → Type 0) (Q : Folder → Type 0) (f g : Knowledge) (x : Outside) (r : Result U FilesStop) → r ≡ Err stops.OutOfMemory → KnowsMore P x.disk Q f g → Asks {T = U} P Q f g x x r
 asks_no_memory {U} P Q f g x r e knows = subst (Asks {T = U} P Q f g x x) (sym e) (asks_memory {T = Unit {0}} {U = U} P Q f g x x tt (asks_quiet P Q f g x x tt refl knows))
 
 -- memory ran out behind what was asked
-pub asks_memory_exit : {T U : Type 0} (P : ℕ → Type 0) (Q : Folder → Type 0) (f g : Knowledge) (x y : Outside) (a : T) (r : Result U Stop) → r ≡ Err stops.OutOfMemory → Asks {T = T} P Q f g x y (Ok a) → Asks {T = U} P Q f g x y r
+pub asks_memory_exit : {T U : Type 0} (P : ℕ → Type 0) (Q : Folder → Type 0) (f g : Knowledge) (x y : Outside) (a : T) (r : Result U FilesStop) → r ≡ Err stops.OutOfMemory → Asks {T = T} P Q f g x y (Ok a) → Asks {T = U} P Q f g x y r
 asks_memory_exit {T} {U} P Q f g x y a r e asks = subst (Asks {T = U} P Q f g x y) (sym e) (asks_memory {T = T} {U = U} P Q f g x y a asks)
 
 -- a look at the host failed
-pub asks_failed : (T : Type 0) {U : Type 0} (P : ℕ → Type 0) (Q : Folder → Type 0) (f g : Knowledge) (x y : Outside) (error : Failed) (r : Result U Stop) → r ≡ Err stops.Host → Looks {T = T} x y (Err error) → KnowsMore P x.disk Q f g → Asks {T = U} P Q f g x y r
+pub asks_failed : (T : Type 0) {U : Type 0} (P : ℕ → Type 0) (Q : Folder → Type 0) (f g : Knowledge) (x y : Outside) (error : Failed) (r : Result U FilesStop) → r ≡ Err stops.Host → Looks {T = T} x y (Err error) → KnowsMore P x.disk Q f g → Asks {T = U} P Q f g x y r
 asks_failed T {U} P Q f g x y error r e failed knows = subst (Asks {T = U} P Q f g x y) (sym e) (asks_look_fails T {U = U} P Q f g x y error failed knows)
 
 -- ---- a digest is found

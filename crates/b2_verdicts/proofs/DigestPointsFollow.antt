@@ -4,7 +4,7 @@ use Rattle.std.specs.Prelude.{IfOk}
 use Rattle.b2_host.specs.Disks.{Disk}
 use Rattle.b2_plan.specs.declared.step.Step.{Step}
 use Rattle.b2_log.specs.declared.line.Record.{Record}
-use Rattle.b2_facts.specs.declared.stop.Stop.{Stop}
+use Rattle.b2_facts.specs.declared.stop.FilesStop.{FilesStop}
 use Rattle.b2_facts.specs.Facts.{Knowledge}
 use Rattle.b2_facts.specs.Growth.{Grows}
 use Rattle.b2_verdicts.specs.declared.point.Point.{Point}
@@ -60,7 +60,7 @@ open_more all step numbers f g grows stand bare asked ordinary = record {
 }
 
 -- a point that is left, or that a record takes away
-pub left_by_digests : (disk later : Option Disk) (step : Step) (numbers : StepNumbers) (last : Option Record) (g : Knowledge) (point : Point) (r : Result (Option Point) Stop) → later ≡ disk → ((all : Bool) → IsOrdinary all step → IsOpenToDigests all step numbers g) → IsDisagreement step numbers last g (Some point)
+pub left_by_digests : (disk later : Option Disk) (step : Step) (numbers : StepNumbers) (last : Option Record) (g : Knowledge) (point : Point) (r : Result (Option Point) FilesStop) → later ≡ disk → ((all : Bool) → IsOrdinary all step → IsOpenToDigests all step numbers g) → IsDisagreement step numbers last g (Some point)
     → IfOk r (λ left. MatchOption left (IsSavedBy step numbers g last) (λ stays. (stays ≡ point) × IsNotSavedBy later step numbers g last))
     → IfOk r (λ left. (all : Bool) → IsOrdinary all step → IsByDigests disk all step numbers last g left)
 left_by_digests disk later step numbers last g point (Ok None) same up is left = λ all ordinary. (up all ordinary, inr left)
@@ -69,7 +69,7 @@ left_by_digests disk later step numbers last g point (Ok (Some stays)) same up i
 left_by_digests disk later step numbers last g point (Err e) same up is left = tt
 
 -- the answer by digests, of an ordinary step
-pub exact_by_digests : (by_digest : Bool) (disk later : Option Disk) (all : Bool) (step : Step) (numbers : StepNumbers) (last : Option Record) (g : Knowledge) (r : Result (Option Point) Stop) → later ≡ disk → by_digest ≡ true → IsOrdinary all step
+pub exact_by_digests : (by_digest : Bool) (disk later : Option Disk) (all : Bool) (step : Step) (numbers : StepNumbers) (last : Option Record) (g : Knowledge) (r : Result (Option Point) FilesStop) → later ≡ disk → by_digest ≡ true → IsOrdinary all step
     → IfOk r (λ point. (any : Bool) → IsOrdinary any step → IsByDigests later any step numbers last g point) → IfOk r (IsPointBy by_digest disk all step numbers last g)
 exact_by_digests by_digest disk later all step numbers last g (Ok point) same e ordinary exact = point_by_digests by_digest disk all step numbers last g point e (subst (λ d. IsByDigests d all step numbers last g point) same (exact all ordinary))
 exact_by_digests by_digest disk later all step numbers last g (Err stop) same e ordinary exact = tt

@@ -19,10 +19,10 @@ use Rattle.b2_facts.specs.Growth.{Grows, Learns, OfOne, IncludesStay}
 use Rattle.b2_facts.specs.Truth.{IsReadAs, AreTrue, StaysTrue}
 use Rattle.b2_facts.proofs.ListsAtPlaces.{some_is, get_more}
 use Rattle.b2_verdicts.specs.declared.step_numbers.StepNumbers.{StepNumbers}
-use Rattle.b2_facts.specs.declared.stop.Stop.{Stop}
+use Rattle.b2_facts.specs.declared.stop.FilesStop.{FilesStop}
 use Rattle.b2_verdicts.specs.Sights.{stamp_of, digest_at}
 use Rattle.b2_verdicts.specs.Points.{HavePaths, HaveDigests, IsOtherDigest, IsSaved}
-use Rattle.b2_verdicts.specs.Calls.{IsOfStep, LastTells, KnowsMore, Asks}
+use Rattle.b2_verdicts.specs.VerdictCalls.{IsOfStep, LastTells, KnowsMore, Asks}
 use Rattle.b2_verdicts.specs.Digested.{TellsOne, TellEach, TellsBoth, HasNames, IsGoneIfUnknown}
 use Rattle.b2_verdicts.proofs.WhatIsKnownStays.{standing_asked, digest_stays}
 use Rattle.b2_verdicts.proofs.MoreIsKnown.{knows_grows}
@@ -66,7 +66,7 @@ pub digests_more : (f g : Knowledge) (ns : List ℕ) (digests : List (List ℕ))
 digests_more f g ns digests grows have = record { count = have.count; each = λ k digest within e. digest_stays f g (get_or ns k 0) digest grows (have.each k digest within e) }
 
 -- all so far have their digests, and one more is asked for
-pub asks_one_more : {T U : Type 0} (P : ℕ → Type 0) (n : ℕ) (Q S : Folder → Type 0) (f g h : Knowledge) (x y z : Outside) (a : T) (r : Result U Stop) → P n → ((now : Folder) → Q now → S now) → Asks {T = T} P Q f g x y (Ok a) → Asks {T = U} (OfOne n) S g h y z r → Asks {T = U} P Q f h x z r
+pub asks_one_more : {T U : Type 0} (P : ℕ → Type 0) (n : ℕ) (Q S : Folder → Type 0) (f g h : Knowledge) (x y z : Outside) (a : T) (r : Result U FilesStop) → P n → ((now : Folder) → Q now → S now) → Asks {T = T} P Q f g x y (Ok a) → Asks {T = U} (OfOne n) S g h y z r → Asks {T = U} P Q f h x z r
 asks_one_more {T} {U} P n Q S f g h x y z a r p more first next = asks_then {T = T} {U = U} P Q f g h x y z a r first (asks_weaker {T = U} (OfOne n) P S Q g h y z r (λ m e. subst P (sym e) p) more next)
 
 -- the last record's digests tell of both lists
@@ -98,7 +98,7 @@ compared f ns logged digests k one digest have count within one_is digest_is = r
 }
 
 -- the files so far were asked for, and then one more
-pub asks_next : {T U : Type 0} (ns : List ℕ) (logged : List (List ℕ × ℕ)) (digests : List (List ℕ)) (f g h : Knowledge) (x y z : Outside) (a : T) (r : Result U Stop) (k : ℕ) (one : List ℕ × ℕ) (digest : List ℕ) → IsCompared f ns logged digests k one digest
+pub asks_next : {T U : Type 0} (ns : List ℕ) (logged : List (List ℕ × ℕ)) (digests : List (List ℕ)) (f g h : Knowledge) (x y z : Outside) (a : T) (r : Result U FilesStop) (k : ℕ) (one : List ℕ × ℕ) (digest : List ℕ) → IsCompared f ns logged digests k one digest
     → Asks {T = T} (Contains ns) (TellEach logged digests) f g x y (Ok a) → Asks {T = U} (OfOne (get_or ns k 0)) (TellsOne g (get_or ns k 0) one.1 digest) g h y z r → Asks {T = U} (Contains ns) (TellEach logged digests) f h x z r
 asks_next {T} {U} ns logged digests f g h x y z a r k one digest at first next =
     let grows = knows_grows (Contains ns) x.disk (TellEach logged digests) f g first.learns in
@@ -129,12 +129,12 @@ known_behind g h ns made place digest grows count known now k d below at = elim 
 tell_along : (logged xs : List (List ℕ × ℕ)) (texts ys : List (List ℕ)) (now : Folder) → logged ≡ xs → texts ≡ ys → TellEach xs ys now → TellEach logged texts now
 tell_along logged xs texts ys now e f each = subst (λ l. TellEach l texts now) (sym e) (subst (λ t. TellEach xs t now) (sym f) each)
 
-pub asks_of_outs : {T : Type 0} (numbers : StepNumbers) (last : Record) (digests : Digests) (f g : Knowledge) (x y : Outside) (r : Result T Stop) (ns : List ℕ) (logged : List (List ℕ × ℕ)) (texts : List (List ℕ)) → ns ≡ numbers.outs → logged ≡ last.outs → texts ≡ digests.outs
+pub asks_of_outs : {T : Type 0} (numbers : StepNumbers) (last : Record) (digests : Digests) (f g : Knowledge) (x y : Outside) (r : Result T FilesStop) (ns : List ℕ) (logged : List (List ℕ × ℕ)) (texts : List (List ℕ)) → ns ≡ numbers.outs → logged ≡ last.outs → texts ≡ digests.outs
     → Asks {T = T} (Contains ns) (TellEach logged texts) f g x y r → Asks {T = T} (IsOfStep numbers) (TellsBoth last digests) f g x y r
 asks_of_outs {T} numbers last digests f g x y r ns logged texts of_step of_last of_digests asks =
     asks_weaker {T = T} (Contains ns) (IsOfStep numbers) (TellEach logged texts) (TellsBoth last digests) f g x y r (λ n among. inl (subst (λ l. Contains l n) of_step among)) (λ now both. tell_along logged last.outs texts digests.outs now of_last of_digests both.outs) asks
 
-pub asks_of_ins : {T : Type 0} (numbers : StepNumbers) (last : Record) (digests : Digests) (f g : Knowledge) (x y : Outside) (r : Result T Stop) (ns : List ℕ) (logged : List (List ℕ × ℕ)) (texts : List (List ℕ)) → ns ≡ numbers.ins → logged ≡ last.ins → texts ≡ digests.ins
+pub asks_of_ins : {T : Type 0} (numbers : StepNumbers) (last : Record) (digests : Digests) (f g : Knowledge) (x y : Outside) (r : Result T FilesStop) (ns : List ℕ) (logged : List (List ℕ × ℕ)) (texts : List (List ℕ)) → ns ≡ numbers.ins → logged ≡ last.ins → texts ≡ digests.ins
     → Asks {T = T} (Contains ns) (TellEach logged texts) f g x y r → Asks {T = T} (IsOfStep numbers) (TellsBoth last digests) f g x y r
 asks_of_ins {T} numbers last digests f g x y r ns logged texts of_step of_last of_digests asks =
     asks_weaker {T = T} (Contains ns) (IsOfStep numbers) (TellEach logged texts) (TellsBoth last digests) f g x y r (λ n among. inr (subst (λ l. Contains l n) of_step among)) (λ now both. tell_along logged last.ins texts digests.ins now of_last of_digests both.ins) asks

@@ -10,7 +10,7 @@ use Rattle.b2_facts.specs.Facts.{Knowledge, path_at}
 use Rattle.b2_facts.proofs.ListsAtPlaces.{at_place, among_at}
 use Rattle.b2_verdicts.specs.declared.step_numbers.StepNumbers.{StepNumbers}
 use Rattle.b2_verdicts.specs.Sights.{IsAsked, AllAsked}
-use Rattle.b2_verdicts.specs.Calls.{IsOfStep}
+use Rattle.b2_verdicts.specs.VerdictCalls.{IsOfStep}
 use Rattle.b2_verdicts.specs.Made.{IsSomeUnseen, IsSomeGone, IsWithoutFile, IsWithoutFile.unseen, IsWithoutFile.undigested}
 use Rattle.b2_verdicts.specs.Cases.{AreNumbersOf}
 use Rattle.b2_verdicts.specs.Laws.{MissingIsGone}

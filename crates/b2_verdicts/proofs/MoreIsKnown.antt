@@ -11,7 +11,7 @@ use Rattle.b2_facts.specs.Truth.{StaysTrue}
 use Rattle.b2_facts.proofs.IncludesAreNotLearned.{includes_same}
 use Rattle.b2_facts.proofs.FactsGrow.{learns_same, learns_then, learns_more, true_same, true_then}
 use Rattle.b2_verdicts.specs.declared.step_numbers.StepNumbers.{StepNumbers}
-use Rattle.b2_verdicts.specs.Calls.{IsOfStep, KnowsMore, Always}
+use Rattle.b2_verdicts.specs.VerdictCalls.{IsOfStep, KnowsMore, Always}
 
 -- what files include stays, and stays again
 includes_then : (f g h : Knowledge) → Grows f g → IncludesStay f g → IncludesStay g h → IncludesStay f h

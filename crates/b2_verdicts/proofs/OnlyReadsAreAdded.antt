@@ -15,7 +15,7 @@ use Rattle.b2_facts.specs.declared.fault.ReadFault.{ReadFault}
 use Rattle.b2_facts.specs.declared.fault.ReadFault.TheVariants as faults
 use Rattle.b2_facts.specs.Asks.{ReadsAtMost}
 use Rattle.b2_facts.specs.Stops.{stop_of_read, StopTold}
-use Rattle.b2_verdicts.specs.Calls.{IsReadNow, ReadsOnly}
+use Rattle.b2_verdicts.specs.VerdictCalls.{IsReadNow, ReadsOnly}
 
 -- nothing changes
 pub reads_none : (P : List ℕ → Type 0) (before after : Outside) → after ≡ before → ReadsOnly P before after

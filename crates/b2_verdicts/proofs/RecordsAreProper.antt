@@ -15,7 +15,7 @@ use Rattle.b2_verdicts.specs.declared.step_numbers.StepNumbers.{StepNumbers}
 use Rattle.b2_verdicts.specs.Sights.{digest_in, digest_at, AreNumbers}
 use Rattle.b2_verdicts.specs.Stamps.{AreLogged}
 use Rattle.b2_verdicts.specs.Points.{HaveDigests}
-use Rattle.b2_verdicts.specs.Calls.{IsOfStep, KnowsMore, Always}
+use Rattle.b2_verdicts.specs.VerdictCalls.{IsOfStep, KnowsMore, Always}
 use Rattle.b2_verdicts.specs.Made.{HasDigestsBy, IsMadeOf, AreRising}
 use Rattle.b2_verdicts.proofs.WhatIsKnownStays.{numbers_stay}
 use Rattle.b2_verdicts.proofs.DisagreementsStay.{path_before}

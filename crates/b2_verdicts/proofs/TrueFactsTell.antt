@@ -9,8 +9,8 @@ use Rattle.b2_plan.specs.Closures.{Value, with_bytes}
 use Rattle.b2_log.specs.Finding.{path_of}
 use Rattle.b2_runs.specs.Staleness.{AreStamped, AreDigested, path_in, paths_with_bytes}
 use Rattle.b2_runs.proofs.SameByStamp.{with_bytes_in as with_bytes_out}
-use Rattle.b2_facts.specs.declared.file_facts.Seen.{Seen}
-use Rattle.b2_facts.specs.declared.file_facts.Seen.TheVariants as seen
+use Rattle.b2_facts.specs.declared.file_facts.FileLook.{FileLook}
+use Rattle.b2_facts.specs.declared.file_facts.FileLook.TheVariants as seen
 use Rattle.b2_facts.specs.declared.file_facts.FileFacts.{FileFacts}
 use Rattle.b2_facts.specs.Digests.{digest_of}
 use Rattle.b2_facts.specs.Facts.{Knowledge, path_at, file_at}
@@ -29,7 +29,7 @@ Names g = AllZip (λ n path. path_at g n ≡ Some path)
 
 -- ---- one file
 
-seen_tells : (s : Seen) (stamp : Option ℕ) → s ≡ seen_of (stamp_in s) → IsSeen s stamp → stamp ≡ stamp_in s
+seen_tells : (s : FileLook) (stamp : Option ℕ) → s ≡ seen_of (stamp_in s) → IsSeen s stamp → stamp ≡ stamp_in s
 seen_tells seen.Unasked stamp asked is = unasked_gone asked
 seen_tells seen.Gone stamp asked is = is
 seen_tells (seen.Stands own) stamp asked is = is

@@ -1,8 +1,8 @@
 -- What is known of a file stays as facts grow.
 use Rattle.std.proofs.Common.{◌≡◌, ℕ, List, [], Option, Some, None, get_or, refl, sym, ap, subst, ◌∙◌}
 use Rattle.std.proofs.lemmas.Option.{slice_get_within, slice_get-get_or}
-use Rattle.b2_facts.specs.declared.file_facts.Seen.{Seen}
-use Rattle.b2_facts.specs.declared.file_facts.Seen.TheVariants as seen
+use Rattle.b2_facts.specs.declared.file_facts.FileLook.{FileLook}
+use Rattle.b2_facts.specs.declared.file_facts.FileLook.TheVariants as seen
 use Rattle.b2_facts.specs.declared.file_facts.FileFacts.{FileFacts}
 use Rattle.b2_facts.specs.Facts.{Knowledge, IsNumber, file_at}
 use Rattle.b2_facts.specs.Asks.{seen_of}
@@ -14,7 +14,7 @@ use Rattle.b2_verdicts.specs.Sights.{seen_in, seen_at, stamp_in, stamp_of, IsAsk
 pub unasked_gone : {A : Type 0} → seen.Unasked ≡ seen.Gone → A
 unasked_gone e = let f : seen.Unasked ≡ seen.Gone = e in cc
 
-asked_stays : (s later : Seen) → s ≡ seen_of (stamp_in s) → StaysSeen s later → later ≡ s
+asked_stays : (s later : FileLook) → s ≡ seen_of (stamp_in s) → StaysSeen s later → later ≡ s
 asked_stays seen.Unasked later asked stays = unasked_gone asked
 asked_stays seen.Gone later asked stays = stays
 asked_stays (seen.Stands stamp) later asked stays = stays
@@ -33,7 +33,7 @@ asked_more f g n grows asked = subst (λ s. s ≡ seen_of (stamp_in s)) (sym (se
 pub stamp_stays : (f g : Knowledge) (n : ℕ) → Grows f g → IsAsked f n → stamp_of g n ≡ stamp_of f n
 stamp_stays f g n grows asked = ap stamp_in (seen_stays f g n grows asked)
 
-standing_seen : (s : Seen) (stamp : ℕ) → stamp_in s ≡ Some stamp → s ≡ seen_of (stamp_in s)
+standing_seen : (s : FileLook) (stamp : ℕ) → stamp_in s ≡ Some stamp → s ≡ seen_of (stamp_in s)
 standing_seen seen.Unasked stamp e = absurd (none_some stamp e)
 standing_seen seen.Gone stamp e = absurd (none_some stamp e)
 standing_seen (seen.Stands own) stamp e = refl

@@ -12,7 +12,7 @@ pub mod Sights
 pub mod Stamps
 pub mod Older
 pub mod Points
-pub mod Calls
+pub mod VerdictCalls
 pub mod Chains
 pub mod Digested
 pub mod Made

@@ -12,7 +12,7 @@ use Rattle.b2_verdicts.specs.declared.step_numbers.StepNumbers.{StepNumbers}
 use Rattle.b2_verdicts.specs.Sights.{stamp_of, IsAsked}
 use Rattle.b2_verdicts.specs.Stamps.{AreLogged}
 use Rattle.b2_verdicts.specs.Points.{HaveDigests}
-use Rattle.b2_verdicts.specs.Calls.{IsOfStep}
+use Rattle.b2_verdicts.specs.VerdictCalls.{IsOfStep}
 
 -- where judging is by digests there are those of the outputs and of the members
 abbrev pub HasDigestsBy : Bool → StepNumbers → Knowledge → Option Digests → Type 0

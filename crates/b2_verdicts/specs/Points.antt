@@ -9,7 +9,7 @@ use Rattle.b2_facts.specs.Facts.{Knowledge, path_at}
 use Rattle.b2_verdicts.specs.declared.point.Point.{Point}
 use Rattle.b2_verdicts.specs.declared.point.Point.TheVariants as points
 use Rattle.b2_verdicts.specs.declared.step_numbers.StepNumbers.{StepNumbers}
-use Rattle.b2_verdicts.specs.declared.way.Way.{Way}
+use Rattle.b2_verdicts.specs.declared.judging_mode.JudgingMode.{JudgingMode}
 use Rattle.b2_verdicts.specs.Sights.{digest_at, AllAsked, AllStand}
 use Rattle.b2_verdicts.specs.Stamps.{IsFirstGone, NoneOlder, IsFirstOlder, AreLogged, IsFirstOther}
 
@@ -167,5 +167,5 @@ IsPointBy false disk all step numbers last g point = IsByStamps all step numbers
 IsPointBy true disk all step numbers last g point = IsByDigests disk all step numbers last g point
 
 -- the first point in a way of judging, or none where the step is fresh
-abbrev pub IsPoint : Option Disk → Way → Step → StepNumbers → Option Record → Knowledge → Option Point → Type 0
+abbrev pub IsPoint : Option Disk → JudgingMode → Step → StepNumbers → Option Record → Knowledge → Option Point → Type 0
 IsPoint disk way step numbers last g point = IsPointBy way.by_digest disk way.all step numbers last g point

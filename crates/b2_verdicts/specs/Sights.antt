@@ -1,7 +1,7 @@
 -- What is known of the file with a number.
 use Rattle.std.specs.Prelude.{◌≡◌, ℕ, ◌<◌, List, length, slice_index, Option, Some, None}
-use Rattle.b2_facts.specs.declared.file_facts.Seen.{Seen}
-use Rattle.b2_facts.specs.declared.file_facts.Seen.TheVariants as seen
+use Rattle.b2_facts.specs.declared.file_facts.FileLook.{FileLook}
+use Rattle.b2_facts.specs.declared.file_facts.FileLook.TheVariants as seen
 use Rattle.b2_facts.specs.declared.file_facts.FileFacts.{FileFacts}
 use Rattle.b2_facts.specs.Facts.{Knowledge, IsNumber, file_at}
 use Rattle.b2_facts.specs.Asks.{seen_of}
@@ -9,16 +9,16 @@ use Rattle.b2_facts.specs.Asks.{seen_of}
 -- ---- stamps
 
 -- what was seen of a file, where there are facts of it
-abbrev pub seen_in : Option FileFacts → Seen
+abbrev pub seen_in : Option FileFacts → FileLook
 seen_in None = seen.Unasked
 seen_in (Some file) = file.seen
 
 -- what was seen of the file with a number
-abbrev pub seen_at : Knowledge → ℕ → Seen
+abbrev pub seen_at : Knowledge → ℕ → FileLook
 seen_at g n = seen_in (file_at g n)
 
 -- the stamp with which a file was seen to stand
-abbrev pub stamp_in : Seen → Option ℕ
+abbrev pub stamp_in : FileLook → Option ℕ
 stamp_in seen.Unasked = None
 stamp_in seen.Gone = None
 stamp_in (seen.Stands stamp) = Some stamp

@@ -9,7 +9,7 @@ ghost use Rattle.b2_facts.specs.Facts.{IsNumber};
 ghost use Rattle.b2_facts.specs.Growth.{OfOne};
 ghost use Rattle.b2_verdicts.specs.Sights.{stamp_of, digest_at, AreNumbers};
 ghost use Rattle.b2_verdicts.specs.Points.{HavePaths, HaveDigests, IsOtherDigest, IsSaved, IsNotSaved};
-ghost use Rattle.b2_verdicts.specs.Calls.{IsOfStep, KnowsMore, LastTells, Always, Asks};
+ghost use Rattle.b2_verdicts.specs.VerdictCalls.{IsOfStep, KnowsMore, LastTells, Always, Asks};
 ghost use Rattle.b2_verdicts.specs.Digested.{TellsOne, TellEach, TellsBoth, HasNames, IsGoneIfUnknown};
 
 use crate::comparing::{has_text, have_paths};
@@ -19,7 +19,7 @@ use b2_base::fault::OutOfMemory;
 use b2_base::path::Path;
 use b2_base::text::Text;
 use b2_facts::facts::Facts;
-use b2_facts::stop::{Stop, stop_of_read};
+use b2_facts::stop::{FilesStop, stop_of_read};
 use b2_host::files::Files;
 use b2_log::line::{Digests, Record};
 use b2_plan::step::Step;
@@ -31,7 +31,7 @@ pub fn find_digest<F: Files>(
     facts: &mut Facts,
     files: &mut F,
     number: u32,
-) -> Result<(), Stop>
+) -> Result<(), FilesStop>
     requires { IsNumber facts.old number }
     ensures asks { Asks (OfOne number) Always facts.old facts.new (F.outside files.old) (F.outside files.new) result }
     ensures gone { OnOk result (IsGoneIfUnknown (F.outside files.old).disk facts.new number) }
@@ -87,7 +87,7 @@ fn has_digest<F: Files>(
     number: u32,
     stamp: u64,
     digest: &Text,
-) -> Result<bool, Stop>
+) -> Result<bool, FilesStop>
     requires number { IsNumber facts.old number }
     requires digits { IsDigest digest.now }
     ensures asks { Asks (OfOne number) (TellsOne facts.old number stamp digest.now) facts.old facts.new
@@ -108,7 +108,7 @@ fn have_digests<F: Files>(
     numbers: &[u32],
     logged: &[(Path, u64)],
     digests: &[Text],
-) -> Result<bool, Stop>
+) -> Result<bool, FilesStop>
     requires numbers { AreNumbers facts.old numbers.now }
     requires paths { HavePaths facts.old logged.now numbers.now }
     requires count { length digests.now ≡ length numbers.now }
@@ -158,7 +158,7 @@ fn agrees<F: Files>(
     digests: &Digests,
     facts: &mut Facts,
     files: &mut F,
-) -> Result<bool, Stop>
+) -> Result<bool, FilesStop>
     requires outs { AreNumbers facts.old numbers.now.outs }
     requires ins { AreNumbers facts.old numbers.now.ins }
     requires out_paths { HavePaths facts.old last.now.outs numbers.now.outs }
@@ -203,7 +203,7 @@ pub fn is_saved<F: Files>(
     last: &Record,
     facts: &mut Facts,
     files: &mut F,
-) -> Result<bool, Stop>
+) -> Result<bool, FilesStop>
     requires outs { AreNumbers facts.old numbers.now.outs }
     requires ins { AreNumbers facts.old numbers.now.ins }
     requires proper { IsProper (lines.Record last.now) }

@@ -13,6 +13,7 @@
 
 mod comparing;
 mod digests;
+pub mod judging_mode;
 pub mod laws;
 mod older;
 pub mod point;
@@ -20,4 +21,3 @@ pub mod record;
 mod stamps;
 pub mod step_numbers;
 pub mod verdict;
-pub mod way;

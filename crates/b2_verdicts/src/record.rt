@@ -14,7 +14,7 @@ ghost use Rattle.b2_facts.specs.Facts.{IsAbout};
 ghost use Rattle.b2_verdicts.specs.Sights.{AreNumbers};
 ghost use Rattle.b2_verdicts.specs.Stamps.{AreLogged};
 ghost use Rattle.b2_verdicts.specs.Points.{HaveDigests};
-ghost use Rattle.b2_verdicts.specs.Calls.{IsOfStep, Always, Asks, IfTooBig};
+ghost use Rattle.b2_verdicts.specs.VerdictCalls.{IsOfStep, Always, Asks, IfTooBig};
 ghost use Rattle.b2_verdicts.specs.Made.{HasDigestsBy, IsMadeOf, AreRising};
 ghost use Rattle.b2_verdicts.specs.Made.{IsSomeUnseen, IsSomeGone, IsWithoutFile};
 ghost use Rattle.b2_verdicts.specs.Digested.{AllDigested, AreFound};
@@ -27,7 +27,7 @@ use b2_base::fault::OutOfMemory;
 use b2_base::list::List;
 use b2_base::text_list::TextList;
 use b2_facts::facts::Facts;
-use b2_facts::stop::Stop;
+use b2_facts::stop::FilesStop;
 use b2_host::files::Files;
 use b2_log::line::{Digests, Record, StampedPaths};
 use b2_plan::step::Step;
@@ -59,7 +59,7 @@ fn digested<F: Files>(
     facts: &mut Facts,
     files: &mut F,
     numbers: &[u32],
-) -> Result<Option<TextList>, Stop>
+) -> Result<Option<TextList>, FilesStop>
     requires { AreNumbers facts.old numbers.now }
     ensures asks { Asks (Contains numbers.now) Always facts.old facts.new
         (F.outside files.old) (F.outside files.new) result }
@@ -83,7 +83,7 @@ fn digests_of<F: Files>(
     numbers: &StepNumbers,
     facts: &mut Facts,
     files: &mut F,
-) -> Result<Option<Digests>, Stop>
+) -> Result<Option<Digests>, FilesStop>
     requires outs { AreNumbers facts.old numbers.now.outs }
     requires ins { AreNumbers facts.old numbers.now.ins }
     ensures asks { Asks (IsOfStep numbers.now) Always facts.old facts.new
@@ -142,7 +142,7 @@ pub fn record_of<F: Files>(
     numbers: &StepNumbers,
     facts: &mut Facts,
     files: &mut F,
-) -> Result<Option<Record>, Stop>
+) -> Result<Option<Record>, FilesStop>
     requires outs { AreNumbers facts.old numbers.now.outs }
     requires ins { AreNumbers facts.old numbers.now.ins }
     ensures asks { Asks (IsOfStep numbers.now) Always facts.old facts.new
@@ -172,7 +172,7 @@ fn digest_all<F: Files>(
     facts: &mut Facts,
     files: &mut F,
     numbers: &[u32],
-) -> Result<(), Stop>
+) -> Result<(), FilesStop>
     requires { AreNumbers facts.old numbers.now }
     ensures asks { Asks (Contains numbers.now) Always facts.old facts.new
         (F.outside files.old) (F.outside files.new) result }
@@ -194,7 +194,7 @@ pub fn find_inputs<F: Files>(
     numbers: &StepNumbers,
     facts: &mut Facts,
     files: &mut F,
-) -> Result<(), Stop>
+) -> Result<(), FilesStop>
     requires { AreNumbers facts.old numbers.now.ins }
     ensures asks { Asks (IsOfStep numbers.now) Always facts.old facts.new
         (F.outside files.old) (F.outside files.new) result }

@@ -7,10 +7,10 @@ ghost use Rattle.b2_facts.specs.Facts.{IsNumber};
 ghost use Rattle.b2_facts.specs.Growth.{OfOne};
 ghost use Rattle.b2_verdicts.specs.Sights.{stamp_of, IsAsked, AreNumbers, AllAsked, AllStand};
 ghost use Rattle.b2_verdicts.specs.Stamps.{IsFirstGone};
-ghost use Rattle.b2_verdicts.specs.Calls.{KnowsMore, Always};
+ghost use Rattle.b2_verdicts.specs.VerdictCalls.{KnowsMore, Always};
 
 use b2_facts::facts::Facts;
-use b2_facts::file_facts::Seen;
+use b2_facts::file_facts::FileLook;
 use b2_host::fault::Failed;
 use b2_host::files::Files;
 
@@ -20,8 +20,8 @@ pub fn stamp_of(facts: &Facts, number: u32) -> Option<u64>
     ensures { result ≡ stamp_of facts.now number }
 {
     match facts.file(number).seen {
-        Seen::Stands(stamp) => Some(stamp),
-        Seen::Gone | Seen::Unasked => None,
+        FileLook::Stands(stamp) => Some(stamp),
+        FileLook::Gone | FileLook::Unasked => None,
     }
 }
 

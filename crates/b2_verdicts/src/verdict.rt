@@ -8,17 +8,17 @@ ghost use Rattle.b2_log.specs.Good.{IsProper};
 ghost use Rattle.b2_verdicts.specs.Sights.{AreNumbers, AllAsked, AllStand};
 ghost use Rattle.b2_verdicts.specs.Points.{IsOrdinary, IsCommanded, IsDisagreement, IsByStamps, IsByDigests, IsSavedBy, IsNotSavedBy, IsPoint};
 ghost use Rattle.b2_verdicts.specs.Chains.{IsOutputs, IsBegun, IsOtherFiles, IsJudged};
-ghost use Rattle.b2_verdicts.specs.Calls.{IsOfStep, KnowsMore, LastTells, LastTellsUnless, Always, Asks, IfTooBig};
+ghost use Rattle.b2_verdicts.specs.VerdictCalls.{IsOfStep, KnowsMore, LastTells, LastTellsUnless, Always, Asks, IfTooBig};
 
 use crate::comparing::{first_other, has_text};
 use crate::digests::is_saved;
+use crate::judging_mode::JudgingMode;
 use crate::older::first_older;
 use crate::point::Point;
 use crate::stamps::{ask_all, first_gone};
 use crate::step_numbers::StepNumbers;
-use crate::way::Way;
 use b2_facts::facts::Facts;
-use b2_facts::stop::Stop;
+use b2_facts::stop::FilesStop;
 use b2_host::fault::Failed;
 use b2_host::files::Files;
 use b2_log::line::Record;
@@ -189,7 +189,7 @@ fn unless_saved<F: Files>(
     facts: &mut Facts,
     files: &mut F,
     point: Point,
-) -> Result<Option<Point>, Stop>
+) -> Result<Option<Point>, FilesStop>
     requires outs { AreNumbers facts.old numbers.now.outs }
     requires ins { AreNumbers facts.old numbers.now.ins }
     requires proper { IfSome (option_copied last) (λ found. IsProper (lines.Record found)) }
@@ -216,7 +216,7 @@ fn by_digests<F: Files>(
     last: Option<&Record>,
     facts: &mut Facts,
     files: &mut F,
-) -> Result<Option<Point>, Stop>
+) -> Result<Option<Point>, FilesStop>
     requires outs { AreNumbers facts.old numbers.now.outs }
     requires ins { AreNumbers facts.old numbers.now.ins }
     requires stand { AllStand facts.old numbers.now.outs }
@@ -250,13 +250,13 @@ fn by_digests<F: Files>(
 /// `last` is the log's record for the outputs. A step that is fresh by stamps takes no memory.
 pub fn verdict<F: Files>(
     alloc: Global,
-    way: Way,
+    way: JudgingMode,
     step: &Step,
     numbers: &StepNumbers,
     last: Option<&Record>,
     facts: &mut Facts,
     files: &mut F,
-) -> Result<Option<Point>, Stop>
+) -> Result<Option<Point>, FilesStop>
     requires outs { AreNumbers facts.old numbers.now.outs }
     requires ins { AreNumbers facts.old numbers.now.ins }
     requires proper { IfSome (option_copied last) (λ found. IsProper (lines.Record found)) }

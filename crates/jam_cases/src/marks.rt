@@ -3,7 +3,7 @@ use crate::expansion::Variables;
 use crate::names::name_command;
 use crate::shown::kind_named;
 use b2_base::token::{Token, TokenKind};
-use jam_grammar::mark::{Mark, mark_of};
+use jam_grammar::mark::{TokenMark, mark_of};
 use std::alloc::Global;
 use std::mem::ManuallyDrop;
 use transcript::answer::Answer;
@@ -11,52 +11,52 @@ use transcript::case_fault::CaseFault;
 use transcript::command::{Command, Word};
 
 /// The name of a sign, or of what is neither a sign nor a reserved word.
-fn sign_name(mark: Mark) -> &'static str {
+fn sign_name(mark: TokenMark) -> &'static str {
     match mark {
-        Mark::Plain => "Plain",
-        Mark::Query => "Query",
-        Mark::Star => "Star",
-        Mark::Plus => "Plus",
-        Mark::Together => "Together",
-        Mark::Existing => "Existing",
-        Mark::Quietly => "Quietly",
-        Mark::Body => "Body",
-        Mark::Semicolon => "Semicolon",
-        Mark::Colon => "Colon",
-        Mark::BraceOpen => "BraceOpen",
-        Mark::BraceClose => "BraceClose",
-        Mark::SquareOpen => "SquareOpen",
-        Mark::SquareClose => "SquareClose",
-        Mark::ParenOpen => "ParenOpen",
-        Mark::ParenClose => "ParenClose",
-        Mark::Equals => "Equals",
-        Mark::PlusEquals => "PlusEquals",
-        Mark::QueryEquals => "QueryEquals",
-        Mark::NotEquals => "NotEquals",
-        Mark::Not => "Not",
-        Mark::And => "And",
-        Mark::Or => "Or",
+        TokenMark::Plain => "Plain",
+        TokenMark::Query => "Query",
+        TokenMark::Star => "Star",
+        TokenMark::Plus => "Plus",
+        TokenMark::Together => "Together",
+        TokenMark::Existing => "Existing",
+        TokenMark::Quietly => "Quietly",
+        TokenMark::Body => "Body",
+        TokenMark::Semicolon => "Semicolon",
+        TokenMark::Colon => "Colon",
+        TokenMark::BraceOpen => "BraceOpen",
+        TokenMark::BraceClose => "BraceClose",
+        TokenMark::SquareOpen => "SquareOpen",
+        TokenMark::SquareClose => "SquareClose",
+        TokenMark::ParenOpen => "ParenOpen",
+        TokenMark::ParenClose => "ParenClose",
+        TokenMark::Equals => "Equals",
+        TokenMark::PlusEquals => "PlusEquals",
+        TokenMark::QueryEquals => "QueryEquals",
+        TokenMark::NotEquals => "NotEquals",
+        TokenMark::Not => "Not",
+        TokenMark::And => "And",
+        TokenMark::Or => "Or",
         _ => "Unknown",
     }
 }
 
 /// As the answers of `mark_of` show it.
-fn mark_name(mark: Mark) -> &'static str {
+fn mark_name(mark: TokenMark) -> &'static str {
     match mark {
-        Mark::Actions => "Actions",
-        Mark::Case => "Case",
-        Mark::Else => "Else",
-        Mark::For => "For",
-        Mark::If => "If",
-        Mark::In => "In",
-        Mark::Include => "Include",
-        Mark::Local => "Local",
-        Mark::Module => "Module",
-        Mark::On => "On",
-        Mark::Return => "Return",
-        Mark::Rule => "Rule",
-        Mark::Switch => "Switch",
-        Mark::While => "While",
+        TokenMark::Actions => "Actions",
+        TokenMark::Case => "Case",
+        TokenMark::Else => "Else",
+        TokenMark::For => "For",
+        TokenMark::If => "If",
+        TokenMark::In => "In",
+        TokenMark::Include => "Include",
+        TokenMark::Local => "Local",
+        TokenMark::Module => "Module",
+        TokenMark::On => "On",
+        TokenMark::Return => "Return",
+        TokenMark::Rule => "Rule",
+        TokenMark::Switch => "Switch",
+        TokenMark::While => "While",
         _ => sign_name(mark),
     }
 }

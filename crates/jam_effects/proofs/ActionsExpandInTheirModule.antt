@@ -9,14 +9,14 @@ use Rattle.jam_scope.specs.Rules.{Actions}
 use Rattle.jam_scope.specs.Worlds.{World}
 use Rattle.jam_scope.specs.Lines.{actions_place}
 use Rattle.jam_scope.specs.declared.notes.StepNotes.{StepNotes}
-use Rattle.jam_eval.specs.Faults.{Spot, Cause, unknown_rule, expand}
-use Rattle.jam_eval.specs.Rolled.{Job, own_at, or_look, is_text, body_names, noted}
+use Rattle.jam_meaning.specs.Faults.{Spot, Cause, unknown_rule, expand}
+use Rattle.jam_meaning.specs.Rolled.{Job, own_at, or_look, is_text, body_names, noted}
 use Rattle.jam_effects.specs.declared.fault.EvalFault.{EvalFault}
 use Rattle.jam_effects.specs.declared.fault.EvalFault.TheVariants as fault
-use Rattle.jam_eval.specs.declared.step.StepText.{StepText}
+use Rattle.jam_meaning.specs.declared.step.StepText.{StepText}
 use Rattle.jam_effects.specs.Causes.{IsFault}
 use Rattle.jam_effects.specs.Answers.{IsAnswered}
-use Rattle.jam_eval.specs.StepJobs.{step_answer}
+use Rattle.jam_meaning.specs.StepJobs.{step_answer}
 use Rattle.jam_effects.specs.Rolling.{or_found, names_here, texted, text_of_body, text_of_actions, IsStepText}
 
 abbrev nothing : Option Value

@@ -7,11 +7,11 @@ use Rattle.jam_expand.specs.Limits.{within}
 use Rattle.jam_expand.proofs.ListsGrowTextByText.{fault_stays}
 use Rattle.jam_journal.specs.Tables.{Text}
 use Rattle.jam_journal.specs.Scopes.{Value}
-use Rattle.jam_eval.specs.Faults.{Spot, expand}
-use Rattle.jam_eval.specs.States.{State}
-use Rattle.jam_eval.specs.Outcomes.{Outcome, gives, fault_at, then_do, expanded}
-use Rattle.jam_eval.specs.Levels.{Levels}
-use Rattle.jam_eval.specs.Args.{call, call_head}
+use Rattle.jam_meaning.specs.Faults.{Spot, expand}
+use Rattle.jam_meaning.specs.States.{State}
+use Rattle.jam_meaning.specs.Outcomes.{Outcome, gives, fault_at, then_do, expanded}
+use Rattle.jam_meaning.specs.Levels.{Levels}
+use Rattle.jam_meaning.specs.Args.{call, call_head}
 use Rattle.jam_effects.specs.declared.fault.EvalFault.{EvalFault}
 use Rattle.jam_effects.specs.Answers.{IsAnswered, IsExpandFault, named}
 use Rattle.jam_effects.specs.Machines.{Machine, state_of}

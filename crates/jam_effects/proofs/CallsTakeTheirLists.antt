@@ -5,7 +5,7 @@ use Rattle.b2_base.specs.Results.{and_then}
 use Rattle.jam_expand.specs.Limits.{within}
 use Rattle.jam_journal.specs.Tables.{Text}
 use Rattle.jam_journal.specs.Scopes.{Value}
-use Rattle.jam_eval.specs.Faults.{Spot}
+use Rattle.jam_meaning.specs.Faults.{Spot}
 use Rattle.jam_effects.specs.declared.fault.EvalFault.{EvalFault}
 use Rattle.jam_effects.specs.Answers.{IsAnswered, named, lists_with}
 

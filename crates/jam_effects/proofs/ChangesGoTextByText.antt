@@ -5,8 +5,8 @@ use Rattle.jam_journal.specs.Tables.{Text}
 use Rattle.jam_journal.specs.Scopes.{Value, bind}
 use Rattle.jam_scope.specs.Worlds.{Worlds}
 use Rattle.jam_scope.specs.Changes.{rescoped}
-use Rattle.jam_eval.specs.Faults.{Spot}
-use Rattle.jam_eval.specs.Forms.{bind_names}
+use Rattle.jam_meaning.specs.Faults.{Spot}
+use Rattle.jam_meaning.specs.Forms.{bind_names}
 use Rattle.jam_effects.specs.declared.fault.EvalFault.{EvalFault}
 use Rattle.jam_effects.specs.Naming.{Change, made, and_next, for_each, IsRefused}
 use Rattle.jam_effects.proofs.RestBeginsWithNextItem.{next_item}

@@ -4,8 +4,8 @@ use Rattle.jam_journal.specs.Tables.{Text}
 use Rattle.jam_journal.specs.Scopes.{Value, Binding, Frame, with_binding, bind, assign, append}
 use Rattle.jam_scope.specs.Worlds.{Worlds}
 use Rattle.jam_scope.specs.Changes.{changed, rescoped, set_on}
-use Rattle.jam_eval.specs.Laws.{bounds}
-use Rattle.jam_eval.proofs.FramesStay.{assigned_bounds}
+use Rattle.jam_meaning.specs.Laws.{bounds}
+use Rattle.jam_meaning.proofs.FramesStay.{assigned_bounds}
 use Rattle.jam_effects.specs.Does.{kinds}
 use Rattle.jam_effects.specs.Naming.{SameFrames}
 use Rattle.jam_effects.proofs.FramesCloseEvenAfterFaults.{same_kinds, outer_of}

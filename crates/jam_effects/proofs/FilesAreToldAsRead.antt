@@ -8,13 +8,13 @@ use Rattle.jam_grammar.specs.Trees.{StmtTrees}
 use Rattle.jam_journal.specs.Tables.{Text}
 use Rattle.jam_scope.specs.Worlds.{Worlds}
 use Rattle.jam_scope.specs.Changes.{changed, freeze_roots}
-use Rattle.jam_eval.specs.Faults.{Spot, Cause, include}
-use Rattle.jam_eval.specs.Settings.{Reading, IsReading}
-use Rattle.jam_eval.specs.Includes.{is_in_roots}
+use Rattle.jam_meaning.specs.Faults.{Spot, Cause, include}
+use Rattle.jam_meaning.specs.Settings.{Reading, IsReading}
+use Rattle.jam_meaning.specs.Includes.{is_in_roots}
 use Rattle.jam_values.proofs.OneReading.{one_reading}
 use Rattle.jam_effects.specs.declared.fault.EvalFault.{EvalFault}
 use Rattle.jam_effects.specs.declared.fault.EvalFault.TheVariants as fault
-use Rattle.jam_effects.specs.declared.including.Included.{Included}
+use Rattle.jam_effects.specs.declared.including.IncludedFile.{IncludedFile}
 use Rattle.jam_effects.specs.Causes.{IsFault}
 use Rattle.jam_effects.specs.Including.{read_of, file_of, IsReadFault, IsFileOf, FileTold}
 
@@ -42,7 +42,7 @@ told_below (Some d) path below spot e yes_ h = λ reading is.
     file_fault (file_of below reading path spot) path e (read_fault (file_of below reading path spot) spot (include path) e (ap (λ b. file_of b reading path spot) yes_) h)
 
 -- one that was read
-pub told_read : (disk : Option Disk) (path : Text) (below : Bool) (here : Reading) (spot : Spot) (result : Result Included EvalFault) → below ≡ false → IfSome disk (λ d. IsReading d.now path here)
+pub told_read : (disk : Option Disk) (path : Text) (below : Bool) (here : Reading) (spot : Spot) (result : Result IncludedFile EvalFault) → below ≡ false → IfSome disk (λ d. IsReading d.now path here)
     → IsFileOf (read_of here path spot) path result → FileTold disk below path spot result
 told_read None path below here spot result no_ so h = tt
 told_read (Some d) path below here spot result no_ so h = λ reading is.

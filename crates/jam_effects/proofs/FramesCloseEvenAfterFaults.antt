@@ -4,11 +4,11 @@ use Rattle.jam_journal.specs.Tables.{Text}
 use Rattle.jam_journal.specs.Scopes.{Frame, Scopes, Binding, enter, leave, bind, bind_each, with_binding}
 use Rattle.jam_scope.specs.Worlds.{Worlds}
 use Rattle.jam_scope.specs.Changes.{rescoped}
-use Rattle.jam_eval.specs.States.{State, with_scopes}
-use Rattle.jam_eval.specs.Settings.{Setting}
-use Rattle.jam_eval.specs.Outcomes.{Outcome, gives, faults, in_module, close_frame}
-use Rattle.jam_eval.specs.Laws.{bounds}
-use Rattle.jam_eval.proofs.RecordsOnlyGrow.{close_begins}
+use Rattle.jam_meaning.specs.States.{State, with_scopes}
+use Rattle.jam_meaning.specs.Settings.{Setting}
+use Rattle.jam_meaning.specs.Outcomes.{Outcome, gives, faults, in_module, close_frame}
+use Rattle.jam_meaning.specs.Laws.{bounds}
+use Rattle.jam_meaning.proofs.RecordsOnlyGrow.{close_begins}
 use Rattle.jam_effects.specs.declared.fault.EvalFault.{EvalFault}
 use Rattle.jam_effects.specs.declared.fault.EvalFault.TheVariants as fault
 use Rattle.jam_effects.specs.Causes.{cause_of}

@@ -7,26 +7,26 @@ use Rattle.b2_host.specs.OutsideLaws.{Keeps, keeps_same, keeps_fails}
 use Rattle.jam_journal.specs.Tables.{Text}
 use Rattle.jam_journal.specs.Scopes.{Value}
 use Rattle.jam_scope.specs.Worlds.{Worlds}
-use Rattle.jam_eval.specs.declared.native_answer.NativeStep.{NativeStep}
-use Rattle.jam_eval.specs.declared.native_answer.NativeError.{NativeError}
-use Rattle.jam_eval.specs.declared.native_answer.NativeError.TheVariants as errors
-use Rattle.jam_eval.specs.Faults.{Spot, Cause, native, arity, refused_in}
-use Rattle.jam_eval.specs.Laws.{bounds}
-use Rattle.jam_eval.specs.States.{State}
-use Rattle.jam_eval.specs.Settings as settings
-use Rattle.jam_eval.specs.Settings.{Sight, IsSight, Told, Meaning, Setting}
-use Rattle.jam_eval.specs.Refused.{refused_here, Refuses}
-use Rattle.jam_eval.specs.RefusedLaws.{here_named}
-use Rattle.jam_eval.specs.Kept.{Ends, EndsTold, Grows, Begins}
-use Rattle.jam_eval.specs.NativeCalls.{IsMeant, StaysKept, CallsAsMeant, KeepsFrames, LooksAt, refused_of as refused_natively}
-use Rattle.jam_eval.specs.Calls.{as_told, native_answer}
+use Rattle.jam_meaning.specs.declared.native_answer.NativeStep.{NativeStep}
+use Rattle.jam_meaning.specs.declared.native_answer.NativeError.{NativeError}
+use Rattle.jam_meaning.specs.declared.native_answer.NativeError.TheVariants as errors
+use Rattle.jam_meaning.specs.Faults.{Spot, Cause, native, arity, refused_in}
+use Rattle.jam_meaning.specs.Laws.{bounds}
+use Rattle.jam_meaning.specs.States.{State}
+use Rattle.jam_meaning.specs.Settings as settings
+use Rattle.jam_meaning.specs.Settings.{Sight, IsSight, Told, Meaning, Setting}
+use Rattle.jam_meaning.specs.Refused.{refused_here, Refuses}
+use Rattle.jam_meaning.specs.RefusedLaws.{here_named}
+use Rattle.jam_meaning.specs.Kept.{Ends, EndsTold, Grows, Begins}
+use Rattle.jam_meaning.specs.NativeCalls.{IsMeant, StaysKept, CallsAsMeant, KeepsFrames, LooksAt, refused_of as refused_natively}
+use Rattle.jam_meaning.specs.RuleCalls.{as_told, native_answer}
 use Rattle.jam_effects.specs.declared.at.At.{At}
 use Rattle.jam_effects.specs.declared.turns.Turns.{Turns}
 use Rattle.jam_effects.specs.declared.fault.EvalFault.{EvalFault}
 use Rattle.jam_effects.specs.declared.fault.EvalFault.TheVariants as fault
 use Rattle.jam_effects.specs.Causes.{IsFault, HoldsNoMemory, refused_of}
 use Rattle.jam_effects.specs.Spots.{spot_of}
-use Rattle.jam_effects.specs.Asking.{heard, native_step_at, IsNativeFault}
+use Rattle.jam_effects.specs.AskedNatives.{heard, native_step_at, IsNativeFault}
 use Rattle.jam_effects.specs.Machines.{machine, state_of, folder_of, IsSettingOf}
 use Rattle.jam_effects.specs.Does.{kinds, Stays, Counts, Agrees, DoesInCall}
 use Rattle.jam_effects.specs.Views.{step}

@@ -4,16 +4,16 @@ use Rattle.jam_journal.specs.Tables.{Text, Key}
 use Rattle.jam_journal.specs.Scopes.{Value}
 use Rattle.jam_scope.specs.Rules.{Rule}
 use Rattle.jam_scope.specs.Lines.{actions_place}
-use Rattle.jam_eval.specs.declared.native_answer.NativeStep.{NativeStep}
-use Rattle.jam_eval.specs.Faults.{Spot}
-use Rattle.jam_eval.specs.States.{State}
-use Rattle.jam_eval.specs.Settings.{Told, answers, refuses, Setting}
-use Rattle.jam_eval.specs.Outcomes.{Outcome, Flow, then_do}
-use Rattle.jam_eval.specs.Levels.{Levels}
-use Rattle.jam_eval.specs.Calls.{native_answer, acted_answer, stepped, told, native_call, recorded, acted_at, acted}
+use Rattle.jam_meaning.specs.declared.native_answer.NativeStep.{NativeStep}
+use Rattle.jam_meaning.specs.Faults.{Spot}
+use Rattle.jam_meaning.specs.States.{State}
+use Rattle.jam_meaning.specs.Settings.{Told, answers, refuses, Setting}
+use Rattle.jam_meaning.specs.Outcomes.{Outcome, Flow, then_do}
+use Rattle.jam_meaning.specs.Levels.{Levels}
+use Rattle.jam_meaning.specs.RuleCalls.{native_answer, acted_answer, stepped, told, native_call, recorded, acted_at, acted}
 use Rattle.jam_effects.specs.declared.at.At.{At}
 use Rattle.jam_effects.specs.Spots.{spot_of}
-use Rattle.jam_effects.specs.Asking.{heard, native_step_at, noted_by, recorded_by, record_call_at}
+use Rattle.jam_effects.specs.AskedNatives.{heard, native_step_at, noted_by, recorded_by, record_call_at}
 
 module _ {R : Type 0} (setting : Setting R) (deep : Levels R) (body : Rule → State R → Outcome R Flow) where
   heard_then : (name : Text) (spot : Spot) (s : State R) (t : Told NativeStep R) → told setting deep body name spot s t ≡ then_do (heard name spot s t) (λ step. λ s₁. stepped setting deep body name spot step s₁)

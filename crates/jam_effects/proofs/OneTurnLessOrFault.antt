@@ -2,15 +2,15 @@
 use Rattle.std.proofs.Common.{◌≡◌, ◌≤◌, ◌+◌, ℕ, zero, suc, Option, None, Some, Result, Err, refl, sym, ap, ◌∙◌, subst, arith}
 use Rattle.b2_host.specs.OutsideLaws.{keeps_same}
 use Rattle.jam_journal.specs.Tables.{Text}
-use Rattle.jam_eval.specs.Faults.{Spot, turns}
-use Rattle.jam_eval.specs.States.{State}
-use Rattle.jam_eval.specs.Settings.{Setting}
-use Rattle.jam_eval.specs.Outcomes.{Outcome, by_turns, take_turn, fault_at}
+use Rattle.jam_meaning.specs.Faults.{Spot, turns}
+use Rattle.jam_meaning.specs.States.{State}
+use Rattle.jam_meaning.specs.Settings.{Setting}
+use Rattle.jam_meaning.specs.Outcomes.{Outcome, by_turns, take_turn, fault_at}
 use Rattle.jam_effects.specs.declared.fault.EvalFault.{EvalFault}
 use Rattle.jam_effects.specs.Machines.{Machine, state_of}
 use Rattle.jam_effects.specs.Causes.{IsFault, refused_of}
 use Rattle.jam_effects.specs.Does.{Agrees, DoesInCall, Does, Leads}
-use Rattle.jam_eval.specs.Refused.{Refuses, TookTurn}
+use Rattle.jam_meaning.specs.Refused.{Refuses, TookTurn}
 use Rattle.jam_effects.proofs.WhatEachKeepsAllKeep.{stays_then, setting_after}
 use Rattle.jam_effects.proofs.OrderedCallsDoAsDefined.{fault_now}
 

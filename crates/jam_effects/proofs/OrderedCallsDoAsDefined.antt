@@ -2,14 +2,14 @@
 use Rattle.std.proofs.Common.{◌≡◌, ◌≤◌, ℕ, suc, Bool, true, false, Result, Ok, Err, Option, Some, None, refl, sym, ap, ◌∙◌, subst, arith}
 use Rattle.jam_journal.specs.Tables.{Text}
 use Rattle.jam_journal.specs.Scopes.{Value}
-use Rattle.jam_eval.specs.Faults.{Spot, Cause, refused_in}
-use Rattle.jam_eval.specs.States.{State}
-use Rattle.jam_eval.specs.Settings.{Setting}
-use Rattle.jam_eval.specs.Kept.{Begins}
-use Rattle.jam_eval.specs.Refused.{Refuses, TookTurn}
-use Rattle.jam_eval.specs.RefusedLaws.{refuses_first, refuses_second}
-use Rattle.jam_eval.specs.Outcomes.{Outcome, gives, Flow, then_do, then_go, either, fault_at}
-use Rattle.jam_eval.proofs.RecordsOnlyGrow.{then_begins, go_begins}
+use Rattle.jam_meaning.specs.Faults.{Spot, Cause, refused_in}
+use Rattle.jam_meaning.specs.States.{State}
+use Rattle.jam_meaning.specs.Settings.{Setting}
+use Rattle.jam_meaning.specs.Kept.{Begins}
+use Rattle.jam_meaning.specs.Refused.{Refuses, TookTurn}
+use Rattle.jam_meaning.specs.RefusedLaws.{refuses_first, refuses_second}
+use Rattle.jam_meaning.specs.Outcomes.{Outcome, gives, Flow, then_do, then_go, either, fault_at}
+use Rattle.jam_meaning.proofs.RecordsOnlyGrow.{then_begins, go_begins}
 use Rattle.jam_effects.specs.declared.flow.Flow.TheVariants as ways
 use Rattle.jam_effects.specs.declared.fault.EvalFault.{EvalFault}
 use Rattle.jam_effects.specs.declared.fault.EvalFault.TheVariants as fault

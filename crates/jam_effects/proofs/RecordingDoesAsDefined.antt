@@ -7,23 +7,23 @@ use Rattle.jam_journal.specs.Tables.{Text, Key}
 use Rattle.jam_journal.specs.Scopes.{Value}
 use Rattle.jam_scope.specs.Worlds.{Worlds}
 use Rattle.jam_scope.specs.Lines.{actions_place}
-use Rattle.jam_eval.specs.declared.native_answer.NativeError.{NativeError}
-use Rattle.jam_eval.specs.declared.native_answer.NativeError.TheVariants as errors
-use Rattle.jam_eval.specs.Faults.{Spot, native, arity, refused_in}
-use Rattle.jam_eval.specs.Laws.{bounds}
-use Rattle.jam_eval.specs.States.{State}
-use Rattle.jam_eval.specs.Outcomes.{gives}
-use Rattle.jam_eval.specs.Settings.{Told, answers, Meaning, Setting}
-use Rattle.jam_eval.specs.Refused.{TookTurn}
-use Rattle.jam_eval.specs.NativeCalls.{IsMeant, ActsAsMeant, KeepsFrames, DeclinesWhole, refused_of as refused_natively}
-use Rattle.jam_eval.specs.Calls.{as_told, acted_answer}
+use Rattle.jam_meaning.specs.declared.native_answer.NativeError.{NativeError}
+use Rattle.jam_meaning.specs.declared.native_answer.NativeError.TheVariants as errors
+use Rattle.jam_meaning.specs.Faults.{Spot, native, arity, refused_in}
+use Rattle.jam_meaning.specs.Laws.{bounds}
+use Rattle.jam_meaning.specs.States.{State}
+use Rattle.jam_meaning.specs.Outcomes.{gives}
+use Rattle.jam_meaning.specs.Settings.{Told, answers, Meaning, Setting}
+use Rattle.jam_meaning.specs.Refused.{TookTurn}
+use Rattle.jam_meaning.specs.NativeCalls.{IsMeant, ActsAsMeant, KeepsFrames, DeclinesWhole, refused_of as refused_natively}
+use Rattle.jam_meaning.specs.RuleCalls.{as_told, acted_answer}
 use Rattle.jam_effects.specs.declared.at.At.{At}
 use Rattle.jam_effects.specs.declared.turns.Turns.{Turns}
 use Rattle.jam_effects.specs.declared.fault.EvalFault.{EvalFault}
 use Rattle.jam_effects.specs.declared.fault.EvalFault.TheVariants as fault
 use Rattle.jam_effects.specs.Causes.{refused_of}
 use Rattle.jam_effects.specs.Spots.{spot_of}
-use Rattle.jam_effects.specs.Asking.{noted_by, recorded_by, record_call_at, IsNativeFault}
+use Rattle.jam_effects.specs.AskedNatives.{noted_by, recorded_by, record_call_at, IsNativeFault}
 use Rattle.jam_effects.specs.Machines.{Machine, machine, state_of}
 use Rattle.jam_effects.specs.Does.{kinds, Stays, Counts, Agrees, Does}
 use Rattle.jam_effects.specs.Views.{truth}

@@ -11,10 +11,10 @@ use Rattle.jam_journal.specs.Tables.{Text}
 use Rattle.jam_journal.specs.Scopes.{Value, assign, assigned}
 use Rattle.jam_scope.specs.Worlds.{Worlds}
 use Rattle.jam_scope.specs.Changes.{changed, rescoped, set_on}
-use Rattle.jam_eval.specs.Faults.{Spot, expand}
-use Rattle.jam_eval.specs.States.{State}
-use Rattle.jam_eval.specs.Outcomes.{Outcome, Flow, fault_at, then_do, then_go, either, expanded}
-use Rattle.jam_eval.specs.Forms.{done, for_all, set_name, set_own, own_value, is_empty}
+use Rattle.jam_meaning.specs.Faults.{Spot, expand}
+use Rattle.jam_meaning.specs.States.{State}
+use Rattle.jam_meaning.specs.Outcomes.{Outcome, Flow, fault_at, then_do, then_go, either, expanded}
+use Rattle.jam_meaning.specs.Forms.{done, for_all, set_name, set_own, own_value, is_empty}
 use Rattle.jam_effects.specs.declared.fault.EvalFault.{EvalFault}
 use Rattle.jam_effects.specs.Answers.{IsExpandFault}
 use Rattle.jam_effects.specs.Naming.{IsRefused, Change, made, refused, and_next, for_each, put_within, set_name_in, set_names_in, set_own_in, set_all_own_in}

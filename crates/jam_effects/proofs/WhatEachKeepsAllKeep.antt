@@ -7,8 +7,8 @@ use Rattle.b2_host.specs.OutsideLaws.{keeps_same, keeps_then}
 use Rattle.jam_journal.specs.Scopes.{Frame}
 use Rattle.jam_scope.specs.Worlds.{Worlds, World}
 use Rattle.jam_scope.specs.Changes.{frames_at_mark}
-use Rattle.jam_eval.specs.Settings.{Setting}
-use Rattle.jam_eval.specs.Laws.{bounds}
+use Rattle.jam_meaning.specs.Settings.{Setting}
+use Rattle.jam_meaning.specs.Laws.{bounds}
 use Rattle.jam_effects.specs.declared.fault.EvalFault.{EvalFault}
 use Rattle.jam_effects.specs.declared.fault.EvalFault.TheVariants as fault
 use Rattle.jam_effects.specs.Machines.{Machine, folder_of, IsSettingOf}

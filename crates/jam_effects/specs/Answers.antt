@@ -6,8 +6,8 @@ use Rattle.b2_base.specs.Results.{and_then}
 use Rattle.jam_expand.specs.Limits.{within}
 use Rattle.jam_journal.specs.Tables.{Text}
 use Rattle.jam_journal.specs.Scopes.{Value}
-use Rattle.jam_eval.specs.Faults.{Spot, expand}
-use Rattle.jam_effects.specs.declared.calling.Named.{Named}
+use Rattle.jam_meaning.specs.Faults.{Spot, expand}
+use Rattle.jam_effects.specs.declared.calling.NamedCall.{NamedCall}
 use Rattle.jam_effects.specs.declared.fault.EvalFault.{EvalFault}
 use Rattle.jam_effects.specs.declared.fault.EvalFault.TheVariants as faults
 use Rattle.jam_effects.specs.Causes.{IsFault}
@@ -27,7 +27,7 @@ named [] given = Ok None
 named (name ∷ more) [] = Ok (Some (name, more ∷ []))
 named (name ∷ more) (first ∷ rest) = and_then (λ list. Ok (Some (name, list ∷ rest))) (within (more ++ first))
 
-abbrev pub named_of : Option Named → Option (Text × List Value)
+abbrev pub named_of : Option NamedCall → Option (Text × List Value)
 named_of None = None
 named_of (Some call) = Some (call.name, call.lists)
 

@@ -3,7 +3,7 @@ use Rattle.std.specs.Prelude.{◌≡◌, ◌≢◌, Option, None, Result, Ok, Er
 use Rattle.b2_base.specs.declared.expand_fault.ExpandFault.TheVariants as expansions
 use Rattle.jam_lexer.specs.declared.fault.LexFault.TheVariants as lexings
 use Rattle.jam_journal.specs.Tables.{Text}
-use Rattle.jam_eval.specs.Faults.{Cause, unknown_rule, arity, turns, depth, expand, exit, native, include, lex, syntax_at, too_big, Spot, refused_in}
+use Rattle.jam_meaning.specs.Faults.{Cause, unknown_rule, arity, turns, depth, expand, exit, native, include, lex, syntax_at, too_big, Spot, refused_in}
 use Rattle.jam_effects.specs.declared.fault.EvalCause.{EvalCause}
 use Rattle.jam_effects.specs.declared.fault.EvalCause.TheVariants as causes
 use Rattle.jam_effects.specs.declared.fault.EvalFault.{EvalFault}

@@ -6,13 +6,13 @@ use Rattle.b2_host.specs.OutsideLaws.{Keeps}
 use Rattle.jam_journal.specs.Tables.{Text}
 use Rattle.jam_journal.specs.Scopes.{Frame}
 use Rattle.jam_scope.specs.Worlds.{Worlds}
-use Rattle.jam_eval.specs.States.{State}
-use Rattle.jam_eval.specs.Settings.{Meaning, Setting}
-use Rattle.jam_eval.specs.Outcomes.{Outcome, gives, faults}
-use Rattle.jam_eval.specs.Kept.{Begins}
-use Rattle.jam_eval.specs.Laws.{bounds}
-use Rattle.jam_eval.specs.Rolled.{back_to}
-use Rattle.jam_eval.specs.Refused.{NamesNone, Refuses, TookTurn}
+use Rattle.jam_meaning.specs.States.{State}
+use Rattle.jam_meaning.specs.Settings.{Meaning, Setting}
+use Rattle.jam_meaning.specs.Outcomes.{Outcome, gives, faults}
+use Rattle.jam_meaning.specs.Kept.{Begins}
+use Rattle.jam_meaning.specs.Laws.{bounds}
+use Rattle.jam_meaning.specs.Rolled.{back_to}
+use Rattle.jam_meaning.specs.Refused.{NamesNone, Refuses, TookTurn}
 use Rattle.jam_effects.specs.declared.turns.Turns.{Turns}
 use Rattle.jam_effects.specs.declared.fault.EvalFault.{EvalFault}
 use Rattle.jam_effects.specs.declared.fault.EvalFault.TheVariants as fault

@@ -10,10 +10,10 @@ use Rattle.jam_grammar.specs.Trees.{StmtTrees, whole_tree}
 use Rattle.jam_journal.specs.Tables.{Text}
 use Rattle.jam_scope.specs.Worlds.{World, Worlds}
 use Rattle.jam_scope.specs.Changes.{changed, freeze_roots}
-use Rattle.jam_eval.specs.Faults.{Spot, Cause, include, lex, syntax_at, too_big}
-use Rattle.jam_eval.specs.Settings.{Reading, is_missing, is_too_big, has_no_tokens, has_no_tree, is_file, IsReading}
-use Rattle.jam_eval.specs.Includes.{is_in_roots, in_file}
-use Rattle.jam_effects.specs.declared.including.Included.{Included}
+use Rattle.jam_meaning.specs.Faults.{Spot, Cause, include, lex, syntax_at, too_big}
+use Rattle.jam_meaning.specs.Settings.{Reading, is_missing, is_too_big, has_no_tokens, has_no_tree, is_file, IsReading}
+use Rattle.jam_meaning.specs.Includes.{is_in_roots, in_file}
+use Rattle.jam_effects.specs.declared.including.IncludedFile.{IncludedFile}
 use Rattle.jam_effects.specs.declared.fault.EvalFault.{EvalFault}
 use Rattle.jam_effects.specs.declared.fault.EvalFault.TheVariants as faults
 use Rattle.jam_effects.specs.Causes.{IsFault, HoldsNoMemory}
@@ -44,22 +44,22 @@ IsTreeOf answer (Ok tree) = answer ≡ Ok (whole_tree tree)
 IsTreeOf answer (Err e) = IsReadFault answer e
 
 -- The result is the answer, with the path of the file; nothing is said where the host failed.
-abbrev pub IsFileOf : Result StmtTrees (Spot × Cause) → Text → Result Included EvalFault → Type 0
+abbrev pub IsFileOf : Result StmtTrees (Spot × Cause) → Text → Result IncludedFile EvalFault → Type 0
 IsFileOf answer path (Ok file) = (file.path ≡ path) × (answer ≡ Ok (whole_tree file.tree))
 IsFileOf answer path (Err faults.Host) = Unit {0}
 IsFileOf answer path (Err faults.OutOfMemory) = Unit {0}
 IsFileOf answer path (Err (faults.At file line why)) = IsReadFault answer (faults.At file line why)
 
 -- where files are visible, the result is that of each way in which the file reads
-abbrev pub FileTold : Option Disk → Bool → Text → Spot → Result Included EvalFault → Type 0
+abbrev pub FileTold : Option Disk → Bool → Text → Spot → Result IncludedFile EvalFault → Type 0
 FileTold disk below path spot result = IfSome disk (λ d. (reading : Reading) → IsReading d.now path reading → IsFileOf (file_of below reading path spot) path result)
 
 -- the same of the file of a name, which stands in the directory of the project
-abbrev pub IncludeTold : Option Disk → World → Text → Spot → Result Included EvalFault → Type 0
+abbrev pub IncludeTold : Option Disk → World → Text → Spot → Result IncludedFile EvalFault → Type 0
 IncludeTold disk w name spot result = FileTold disk (is_in_roots w (path_from w.place name)) (path_from w.place name) spot result
 
 -- No output root is added from then on; where memory ran out, this may not be so yet.
-abbrev pub IsFrozen : Worlds → Worlds → Result Included EvalFault → Type 0
+abbrev pub IsFrozen : Worlds → Worlds → Result IncludedFile EvalFault → Type 0
 IsFrozen before after (Ok file) = after ≡ changed freeze_roots before
 IsFrozen before after (Err faults.Host) = after ≡ changed freeze_roots before
 IsFrozen before after (Err faults.OutOfMemory) = (after ≡ before) ⊎ (after ≡ changed freeze_roots before)

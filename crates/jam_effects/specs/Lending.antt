@@ -3,7 +3,7 @@ use Rattle.std.specs.Prelude.{◌≡◌, Bool, Ok}
 use Rattle.jam_expand.specs.Expansions.{expansion}
 use Rattle.jam_grammar.specs.Trees.{ArgTree, ArgTrees, Word, Bracket, NoArgs, ArgAnd}
 use Rattle.jam_journal.specs.Scopes.{Scopes, Value, look}
-use Rattle.jam_eval.specs.Conds.{is_true, is_same, is_within}
+use Rattle.jam_meaning.specs.Conds.{is_true, is_same, is_within}
 
 -- the argument is a word that stands for this list
 abbrev pub IsLent : Scopes → ArgTree → Value → Type 0

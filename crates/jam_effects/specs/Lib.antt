@@ -16,6 +16,6 @@ pub mod Answers
 pub mod Naming
 pub mod Framing
 pub mod Including
-pub mod Asking
+pub mod AskedNatives
 pub mod Rolling
 pub mod Lending

@@ -4,8 +4,8 @@ use Rattle.std.specs.Option.{option_map}
 use Rattle.b2_host.specs.Disks.{Folder, Disk}
 use Rattle.b2_host.specs.Outside.{Outside}
 use Rattle.jam_scope.specs.Worlds.{Worlds}
-use Rattle.jam_eval.specs.States.{State}
-use Rattle.jam_eval.specs.Settings.{Meaning, Setting, IsSetting}
+use Rattle.jam_meaning.specs.States.{State}
+use Rattle.jam_meaning.specs.Settings.{Meaning, Setting, IsSetting}
 use Rattle.jam_effects.specs.declared.turns.Turns.{Turns}
 
 -- the worlds; the turns that are left, and those that there were at first; what the natives keep, and what they mean, where

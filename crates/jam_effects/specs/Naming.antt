@@ -11,10 +11,10 @@ use Rattle.jam_journal.specs.Tables.{Text}
 use Rattle.jam_journal.specs.Scopes.{Value, assign, assigned}
 use Rattle.jam_scope.specs.Worlds.{Worlds}
 use Rattle.jam_scope.specs.Changes.{changed, rescoped, set_on}
-use Rattle.jam_eval.specs.Faults.{Spot, expand}
-use Rattle.jam_eval.specs.Laws.{bounds}
+use Rattle.jam_meaning.specs.Faults.{Spot, expand}
+use Rattle.jam_meaning.specs.Laws.{bounds}
 use Rattle.jam_effects.specs.Does.{kinds}
-use Rattle.jam_eval.specs.Forms.{is_empty}
+use Rattle.jam_meaning.specs.Forms.{is_empty}
 use Rattle.jam_effects.specs.declared.fault.EvalFault.{EvalFault}
 use Rattle.jam_effects.specs.declared.fault.EvalFault.TheVariants as faults
 use Rattle.jam_effects.specs.Causes.{IsFault}

@@ -9,13 +9,13 @@ use Rattle.jam_scope.specs.Worlds.{World}
 use Rattle.jam_scope.specs.Lines.{actions_place}
 use Rattle.jam_scope.specs.declared.notes.StepNotes.{StepNotes}
 use Rattle.jam_expand.specs.Bodies.{body_expansion}
-use Rattle.jam_eval.specs.Faults.{Spot, Cause, unknown_rule, expand}
-use Rattle.jam_eval.specs.Rolled.{Job, StepAnswer, is_text, own_at, body_names, noted}
+use Rattle.jam_meaning.specs.Faults.{Spot, Cause, unknown_rule, expand}
+use Rattle.jam_meaning.specs.Rolled.{Job, StepAnswer, is_text, own_at, body_names, noted}
 use Rattle.jam_effects.specs.declared.fault.EvalFault.{EvalFault}
 use Rattle.jam_effects.specs.declared.fault.EvalFault.TheVariants as faults
 use Rattle.jam_effects.specs.Causes.{IsFault}
-use Rattle.jam_eval.specs.declared.step.StepText.{StepText}
-use Rattle.jam_eval.specs.StepJobs.{step_answer}
+use Rattle.jam_meaning.specs.declared.step.StepText.{StepText}
+use Rattle.jam_meaning.specs.StepJobs.{step_answer}
 
 -- what a name stands for in a body, where the newest frame is one of the module of the actions and binds nothing
 abbrev pub or_found : Option Value → Text → World → Value

@@ -1,5 +1,5 @@
 -- Where the code is, as data.
-use Rattle.jam_eval.specs.Faults.{Spot}
+use Rattle.jam_meaning.specs.Faults.{Spot}
 use Rattle.jam_effects.specs.declared.at.At.{At}
 
 abbrev pub spot_of : At → Spot

@@ -1,10 +1,10 @@
 -- How results are seen.
 use Rattle.std.specs.Prelude.{◌≡◌, Bool, List, [], Result, Ok, Err}
 use Rattle.jam_journal.specs.Scopes.{Value}
-use Rattle.jam_eval.specs.declared.native_answer.NativeStep.{NativeStep}
-use Rattle.jam_eval.specs.States.{State}
-use Rattle.jam_eval.specs.Settings.{Setting}
-use Rattle.jam_eval.specs.Outcomes.{Outcome, Flow, goes_on, returns}
+use Rattle.jam_meaning.specs.declared.native_answer.NativeStep.{NativeStep}
+use Rattle.jam_meaning.specs.States.{State}
+use Rattle.jam_meaning.specs.Settings.{Setting}
+use Rattle.jam_meaning.specs.Outcomes.{Outcome, Flow, goes_on, returns}
 use Rattle.jam_effects.specs.declared.flow.Flow.{Flow as Way}
 use Rattle.jam_effects.specs.declared.flow.Flow.TheVariants as ways
 use Rattle.jam_effects.specs.declared.fault.EvalFault.{EvalFault}

@@ -3,9 +3,9 @@ ghost use Rattle.std.specs.Prelude.{◌≡◌, ◌∷◌, [], IfOk, string_bytes
 ghost use Rattle.std.specs.Option.{option_copied};
 ghost use Rattle.b2_base.specs.Bytes.{HasNoZero};
 ghost use Rattle.jam_expand.specs.Bodies.{body_expansion};
-ghost use Rattle.jam_eval.specs.Rolled.{is_text, own_at, noted as noted_of};
+ghost use Rattle.jam_meaning.specs.Rolled.{is_text, own_at, noted as noted_of};
 ghost use Rattle.jam_effects.specs.Answers.{IsAnswered};
-ghost use Rattle.jam_eval.specs.StepJobs.{job_of, step_answer};
+ghost use Rattle.jam_meaning.specs.StepJobs.{job_of, step_answer};
 ghost use Rattle.jam_effects.specs.Rolling.{names_here, IsStepText};
 ghost use Rattle.jam_effects.specs.Spots.{spot_of};
 
@@ -19,8 +19,8 @@ use b2_base::path::Path;
 use b2_base::path_list::{PathList, copy_paths};
 use b2_base::text::Text;
 use b2_base::text_list::{TextList, copy_texts};
-use jam_eval::step::{StepJob, StepText};
 use jam_expand::body::expand_body;
+use jam_meaning::step::{StepJob, StepText};
 use jam_scope::notes::StepNotes;
 use jam_scope::world::World;
 use jam_values::lists::TextLists;

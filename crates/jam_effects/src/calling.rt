@@ -13,7 +13,7 @@ use crate::words::{expand_fault, join_at};
 use b2_base::fault::OutOfMemory;
 use b2_base::text::Text;
 use b2_base::text_list::{TextList, copy_texts};
-use jam_expand::limit::Gathered;
+use jam_expand::limit::LimitedList;
 use jam_scope::rule::Rule;
 use jam_scope::world::World;
 use jam_values::lists::TextLists;
@@ -21,7 +21,7 @@ use std::alloc::Global;
 
 /// The name of what is called, and its lists.
 #[derive(Drop)]
-pub struct Named {
+pub struct NamedCall {
     pub name: Text,
     pub lists: TextLists,
 }
@@ -35,7 +35,7 @@ fn joined(
 ) -> Result<TextList, EvalFault>
     ensures { IsAnswered value (within (first.now ++ second.now)) (spot_of at.now) result }
 {
-    let mut gathered = Gathered::new(alloc);
+    let mut gathered = LimitedList::new(alloc);
     join_at(&mut gathered, first, at)?;
     join_at(&mut gathered, second, at)?;
     Ok(gathered.into_list())
@@ -105,12 +105,12 @@ fn call_named(
     more: &[Text],
     given: TextLists,
     at: &At<'_>,
-) -> Result<Named, EvalFault>
+) -> Result<NamedCall, EvalFault>
     ensures { IsAnswered (λ call. named_of (Some call)) (named (name.now ∷ more.now) given) (spot_of at.now) result }
 {
     let lists = lists_with(alloc, more, given, at)?;
     let name = name.copy()?;
-    Ok(Named { name, lists })
+    Ok(NamedCall { name, lists })
 }
 
 /// The call of the first of some names, whose others come before the first list; none where there is no name.
@@ -119,7 +119,7 @@ pub fn named_call(
     names: &[Text],
     given: TextLists,
     at: &At<'_>,
-) -> Result<Option<Named>, EvalFault>
+) -> Result<Option<NamedCall>, EvalFault>
     ensures { IsAnswered named_of (named names.now given) (spot_of at.now) result }
 {
     match names {

@@ -1,7 +1,7 @@
 //! Files that are included.
 ghost use Rattle.std.specs.Prelude.{◌≡◌, None, IfErr};
-ghost use Rattle.jam_eval.specs.Faults.{include, lex, too_big as too_big_of};
-ghost use Rattle.jam_eval.specs.Includes.{in_file};
+ghost use Rattle.jam_meaning.specs.Faults.{include, lex, too_big as too_big_of};
+ghost use Rattle.jam_meaning.specs.Includes.{in_file};
 ghost use Rattle.jam_values.specs.FileReadings.{reading_of};
 ghost use Rattle.jam_effects.specs.Causes.{cause_of, refused_of, IsWhole, HoldsNoMemory, IsFault};
 ghost use Rattle.jam_effects.specs.Including.{read_of, IsTreeOf, IncludeTold, IsFrozen, Looked};
@@ -22,7 +22,7 @@ use std::alloc::Global;
 
 /// A file with its statements.
 #[derive(Drop)]
-pub struct Included {
+pub struct IncludedFile {
     pub path: Path,
     pub tree: Tree,
 }
@@ -98,7 +98,7 @@ pub fn read_include<F: Files>(
     files: &mut F,
     name: &Text,
     at: &At<'_>,
-) -> Result<Included, EvalFault>
+) -> Result<IncludedFile, EvalFault>
     ensures world { IsFrozen world.old world.new result }
     ensures told { IncludeTold (F.outside files.old).disk world.old.now name.now (spot_of at.now) result }
     ensures effect { Looked (F.outside files.old) (F.outside files.new) result }
@@ -115,5 +115,5 @@ pub fn read_include<F: Files>(
         Err(IoFault::OutOfMemory) => return Err(EvalFault::OutOfMemory),
     };
     let tree = statements(reading, &path, at)?;
-    Ok(Included { path, tree })
+    Ok(IncludedFile { path, tree })
 }

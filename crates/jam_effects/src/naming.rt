@@ -8,7 +8,7 @@ ghost use Rattle.jam_grammar.specs.Trees.{block_tree, lists_of};
 ghost use Rattle.jam_journal.specs.Scopes.{assign, bind};
 ghost use Rattle.jam_journal.specs.Sizes.{size_of, capped};
 ghost use Rattle.jam_scope.specs.Changes.{changed, rescoped, set_on, define_rule as with_rule, define_actions as with_actions};
-ghost use Rattle.jam_eval.specs.Forms.{bind_names as names_bound};
+ghost use Rattle.jam_meaning.specs.Forms.{bind_names as names_bound};
 ghost use Rattle.jam_effects.specs.declared.fault.EvalFault.TheVariants as faults;
 ghost use Rattle.jam_effects.specs.declared.flow.Flow.TheVariants as ways;
 ghost use Rattle.jam_effects.specs.Naming.{set_name_in, set_names_in, set_own_in, set_all_own_in, for_each, IsMade, IsSummed, SameFrames};

@@ -1,10 +1,10 @@
 //! What natives are asked.
-ghost use Rattle.jam_eval.specs.Faults.{arity as arity_of, unknown_rule as no_rule};
+ghost use Rattle.jam_meaning.specs.Faults.{arity as arity_of, unknown_rule as no_rule};
 ghost use Rattle.jam_effects.specs.Causes.{IsFault};
 ghost use Rattle.jam_effects.specs.Spots.{spot_of};
 ghost use Rattle.jam_effects.specs.declared.turns.Turns.{Turns as Counted};
 ghost use Rattle.jam_effects.specs.Does.{DoesInCallOn, DoesApartOn};
-ghost use Rattle.jam_effects.specs.Asking.{native_step_at, record_call_at, IsNativeFault};
+ghost use Rattle.jam_effects.specs.AskedNatives.{native_step_at, record_call_at, IsNativeFault};
 ghost use Rattle.jam_effects.specs.Views.{truth, step};
 
 use crate::at::At;
@@ -12,7 +12,7 @@ use crate::fault::{EvalCause, EvalFault};
 use b2_base::text::Text;
 use b2_base::text_list::TextList;
 use b2_host::files::Files;
-use jam_eval::natives::{NativeError, NativeStep, Natives};
+use jam_meaning::natives::{NativeError, NativeStep, Natives};
 use jam_scope::world::World;
 use std::alloc::Global;
 

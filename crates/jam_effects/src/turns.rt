@@ -1,6 +1,6 @@
 //! Turns.
 ghost use Rattle.std.specs.Prelude.{◌≡◌, ◌+◌, OnOk, OnErr, IfErr};
-ghost use Rattle.jam_eval.specs.Faults.{turns as turns_over};
+ghost use Rattle.jam_meaning.specs.Faults.{turns as turns_over};
 ghost use Rattle.jam_effects.specs.Causes.{IsFault};
 ghost use Rattle.jam_effects.specs.Spots.{spot_of};
 

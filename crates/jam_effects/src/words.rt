@@ -1,6 +1,6 @@
 //! Words, and lists that are joined.
 ghost use Rattle.std.specs.Prelude.{◌≡◌, ◌++◌, [], OnOk};
-ghost use Rattle.jam_eval.specs.Calls.{kept_if};
+ghost use Rattle.jam_meaning.specs.RuleCalls.{kept_if};
 ghost use Rattle.jam_expand.specs.Limits.{within};
 ghost use Rattle.jam_expand.specs.Expansions.{expansion};
 ghost use Rattle.jam_journal.specs.Scopes.{look};
@@ -14,7 +14,7 @@ use b2_base::expand_fault::ExpandFault;
 use b2_base::fault::OutOfMemory;
 use b2_base::text::Text;
 use b2_base::text_list::TextList;
-use jam_expand::limit::Gathered;
+use jam_expand::limit::LimitedList;
 use jam_expand::word::Word;
 use jam_scope::world::World;
 use jam_values::joining::join;
@@ -41,7 +41,7 @@ pub fn word(alloc: Global, world: &World, word: &Word, at: &At<'_>) -> Result<Te
 }
 
 /// Joins texts to a list, unless it is too large with them.
-pub fn join_at(gathered: &mut Gathered, texts: &[Text], at: &At<'_>) -> Result<(), EvalFault>
+pub fn join_at(gathered: &mut LimitedList, texts: &[Text], at: &At<'_>) -> Result<(), EvalFault>
     ensures { IsAnswered (λ _. gathered.new) (within (gathered.old ++ texts.now)) (spot_of at.now) result }
 {
     match join(gathered, texts) {

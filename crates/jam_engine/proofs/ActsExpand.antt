@@ -10,8 +10,8 @@ use Rattle.jam_expand.specs.Limits.{IsGivenBy}
 use Rattle.jam_journal.specs.Tables.{Text}
 use Rattle.jam_journal.specs.Scopes.{Value, Scopes, look, look_in, enter, bound_in, is_special, is_in as is_within}
 use Rattle.jam_scope.specs.Worlds.{World}
-use Rattle.jam_eval.specs.Faults.{expand}
-use Rattle.jam_eval.specs.Rolled.{own_at, or_look, is_text, body_names}
+use Rattle.jam_meaning.specs.Faults.{expand}
+use Rattle.jam_meaning.specs.Rolled.{own_at, or_look, is_text, body_names}
 use Rattle.jam_effects.specs.Rolling.{or_found}
 use Rattle.jam_effects.specs.declared.fault.EvalCause.TheVariants as causes
 use Rattle.jam_effects.specs.declared.fault.EvalFault.TheVariants as evals

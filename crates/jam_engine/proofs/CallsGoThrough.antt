@@ -6,12 +6,12 @@ use Rattle.b2_host.specs.Outside.{Outside}
 use Rattle.jam_journal.specs.Tables.{Text}
 use Rattle.jam_journal.specs.Scopes.{Value}
 use Rattle.jam_scope.specs.Worlds.{Worlds}
-use Rattle.jam_eval.specs.declared.native_answer.NativeStep.{NativeStep}
-use Rattle.jam_eval.specs.declared.native_answer.NativeStep.TheVariants as steps
-use Rattle.jam_eval.specs.declared.native_answer.NativeError.{NativeError}
-use Rattle.jam_eval.specs.declared.native_answer.NativeError.TheVariants as errors
-use Rattle.jam_eval.specs.Settings.{Sight, IsSight, Told, answers}
-use Rattle.jam_eval.specs.NativeCalls.{IsMeant, StaysKept, refused_of, LooksAt, KeepsFrames, PutsPartly, IsMeantFor}
+use Rattle.jam_meaning.specs.declared.native_answer.NativeStep.{NativeStep}
+use Rattle.jam_meaning.specs.declared.native_answer.NativeStep.TheVariants as steps
+use Rattle.jam_meaning.specs.declared.native_answer.NativeError.{NativeError}
+use Rattle.jam_meaning.specs.declared.native_answer.NativeError.TheVariants as errors
+use Rattle.jam_meaning.specs.Settings.{Sight, IsSight, Told, answers}
+use Rattle.jam_meaning.specs.NativeCalls.{IsMeant, StaysKept, refused_of, LooksAt, KeepsFrames, PutsPartly, IsMeantFor}
 use Rattle.jam_natives.specs.Keeping.{Kept}
 use Rattle.jam_natives.specs.Rules.{is_declaring}
 use Rattle.jam_natives.specs.Rows.{jam_meaning}

@@ -17,19 +17,19 @@ use Rattle.jam_lexer.specs.declared.fault.LexFault.{LexFault}
 use Rattle.jam_lexer.specs.declared.fault.LexFault.TheVariants as lexing
 use Rattle.jam_scope.specs.Worlds.{World, Worlds}
 use Rattle.jam_scope.specs.Changes.{first_worlds}
-use Rattle.jam_eval.specs.Eval.{run}
-use Rattle.jam_eval.specs.Kept.{Ends, Grows}
-use Rattle.jam_eval.specs.Laws.{bounds}
-use Rattle.jam_eval.specs.Outcomes.{Outcome, gives, faults}
-use Rattle.jam_eval.specs.Settings.{Setting, Reading, has_no_tokens, is_file, IsReading}
-use Rattle.jam_eval.specs.States.{State}
+use Rattle.jam_meaning.specs.Eval.{run}
+use Rattle.jam_meaning.specs.Kept.{Ends, Grows}
+use Rattle.jam_meaning.specs.Laws.{bounds}
+use Rattle.jam_meaning.specs.Outcomes.{Outcome, gives, faults}
+use Rattle.jam_meaning.specs.Settings.{Setting, Reading, has_no_tokens, is_file, IsReading}
+use Rattle.jam_meaning.specs.States.{State}
 use Rattle.jam_effects.specs.Does.{Tells as EvalTells, Counts as EvalCounts, Agrees}
 use Rattle.jam_effects.specs.Machines.{Machine, machine, state_of, folder_of, IsSettingOf}
 use Rattle.jam_effects.specs.Views.{ended}
 use Rattle.jam_effects.specs.declared.fault.EvalFault.{EvalFault}
 use Rattle.jam_effects.specs.declared.fault.EvalFault.TheVariants as evaluating
 use Rattle.jam_effects.specs.declared.turns.Turns.{Turns}
-use Rattle.jam_interp.specs.Parts.{run_at}
+use Rattle.jam_interp.specs.FunctionParts.{run_at}
 use Rattle.jam_values.specs.declared.files.FileReading.{FileReading}
 use Rattle.jam_values.specs.FileReadings.{ReadsOnce}
 use Rattle.jam_values.proofs.OneReading.{one_reading}

@@ -8,13 +8,13 @@ use Rattle.jam_journal.specs.Tables.{Text}
 use Rattle.jam_journal.specs.Scopes.{Value}
 use Rattle.jam_scope.specs.Worlds.{World, Worlds}
 use Rattle.jam_scope.specs.Lines.{actions_place}
-use Rattle.jam_eval.specs.declared.native_answer.NativeStep.{NativeStep}
-use Rattle.jam_eval.specs.declared.native_answer.NativeStep.TheVariants as steps
-use Rattle.jam_eval.specs.Refused.{refused_here}
-use Rattle.jam_eval.specs.Settings.{Told, answers, refuses, of_arity, Sight, Setting, Meaning}
-use Rattle.jam_eval.specs.States.{State}
-use Rattle.jam_eval.specs.Calls.{native_answer, acted_answer}
-use Rattle.jam_eval.specs.Kept.{EndsTold, Grows, OnlyAdds}
+use Rattle.jam_meaning.specs.declared.native_answer.NativeStep.{NativeStep}
+use Rattle.jam_meaning.specs.declared.native_answer.NativeStep.TheVariants as steps
+use Rattle.jam_meaning.specs.Refused.{refused_here}
+use Rattle.jam_meaning.specs.Settings.{Told, answers, refuses, of_arity, Sight, Setting, Meaning}
+use Rattle.jam_meaning.specs.States.{State}
+use Rattle.jam_meaning.specs.RuleCalls.{native_answer, acted_answer}
+use Rattle.jam_meaning.specs.Kept.{EndsTold, Grows, OnlyAdds}
 use Rattle.jam_patterns.specs.declared.native_fault.NativeFault.{NativeFault}
 use Rattle.jam_natives.specs.declared.native.Native.{Native}
 use Rattle.jam_natives.specs.declared.native.Native.TheVariants as natives

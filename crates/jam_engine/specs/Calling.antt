@@ -3,11 +3,11 @@ use Rattle.std.specs.Prelude.{◌≡◌, Option, Result, Ok, Err, IfSome}
 use Rattle.b2_host.specs.Outside.{Outside}
 use Rattle.jam_journal.specs.Tables.{Text}
 use Rattle.jam_scope.specs.Worlds.{Worlds}
-use Rattle.jam_eval.specs.declared.native_answer.NativeStep.{NativeStep}
-use Rattle.jam_eval.specs.declared.native_answer.NativeError.{NativeError}
-use Rattle.jam_eval.specs.declared.native_answer.NativeError.TheVariants as errors
-use Rattle.jam_eval.specs.Settings.{Sight, IsSight, Told, answers, refuses, of_arity}
-use Rattle.jam_eval.specs.NativeCalls.{IsMeant, StaysKept, refused_of, LooksAt, KeepsFrames, PutsPartly}
+use Rattle.jam_meaning.specs.declared.native_answer.NativeStep.{NativeStep}
+use Rattle.jam_meaning.specs.declared.native_answer.NativeError.{NativeError}
+use Rattle.jam_meaning.specs.declared.native_answer.NativeError.TheVariants as errors
+use Rattle.jam_meaning.specs.Settings.{Sight, IsSight, Told, answers, refuses, of_arity}
+use Rattle.jam_meaning.specs.NativeCalls.{IsMeant, StaysKept, refused_of, LooksAt, KeepsFrames, PutsPartly}
 use Rattle.jam_natives.specs.Seeing as jam
 use Rattle.jam_engine.specs.declared.natives.GraphNatives.{GraphNatives}
 use Rattle.jam_engine.specs.Graphs.{GraphKept}

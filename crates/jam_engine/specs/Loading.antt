@@ -11,8 +11,8 @@ use Rattle.jam_parser.specs.declared.fault.SyntaxFault.{SyntaxFault}
 use Rattle.jam_parser.specs.declared.fault.SyntaxFault.TheVariants as readings
 use Rattle.jam_journal.specs.Tables.{Text}
 use Rattle.jam_scope.specs.Worlds.{Worlds}
-use Rattle.jam_eval.specs.Refused.{Refuses}
-use Rattle.jam_eval.specs.Settings.{Reading, Setting, IsSetting}
+use Rattle.jam_meaning.specs.Refused.{Refuses}
+use Rattle.jam_meaning.specs.Settings.{Reading, Setting, IsSetting}
 use Rattle.jam_effects.specs.declared.fault.EvalFault.{EvalFault}
 use Rattle.jam_effects.specs.declared.fault.EvalFault.TheVariants as evals
 use Rattle.jam_effects.specs.declared.turns.Turns.{Turns}

@@ -3,11 +3,11 @@ use Rattle.std.specs.Prelude.{ℕ, List, [], Result, Ok, Err}
 use Rattle.jam_lexer.specs.declared.fault.LexFault.{LexFault}
 use Rattle.jam_journal.specs.Tables.{Text}
 use Rattle.jam_scope.specs.Changes.{first_worlds}
-use Rattle.jam_eval.specs.Faults.{Fault}
-use Rattle.jam_eval.specs.States.{State}
-use Rattle.jam_eval.specs.Settings.{Reading, is_missing, is_too_big, has_no_tokens, has_no_tree, is_file, Setting}
-use Rattle.jam_eval.specs.Outcomes.{Outcome, gives, faults}
-use Rattle.jam_eval.specs.Eval.{run}
+use Rattle.jam_meaning.specs.Faults.{Fault}
+use Rattle.jam_meaning.specs.States.{State}
+use Rattle.jam_meaning.specs.Settings.{Reading, is_missing, is_too_big, has_no_tokens, has_no_tree, is_file, Setting}
+use Rattle.jam_meaning.specs.Outcomes.{Outcome, gives, faults}
+use Rattle.jam_meaning.specs.Eval.{run}
 use Rattle.jam_engine.specs.declared.graph.Graph.{Graph}
 use Rattle.jam_engine.specs.Graphs.{GraphKept, nothing_kept, graph_of}
 

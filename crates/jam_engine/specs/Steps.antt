@@ -10,8 +10,8 @@ use Rattle.jam_expand.specs.Bodies.{body_expansion}
 use Rattle.jam_journal.specs.Tables.{Text}
 use Rattle.jam_journal.specs.Scopes.{Value}
 use Rattle.jam_scope.specs.Rules.{Actions}
-use Rattle.jam_eval.specs.Faults.{expand}
-use Rattle.jam_eval.specs.Rolled.{body_names}
+use Rattle.jam_meaning.specs.Faults.{expand}
+use Rattle.jam_meaning.specs.Rolled.{body_names}
 use Rattle.jam_natives.specs.Texts.{without_repeats}
 use Rattle.jam_engine.specs.declared.graph.Act.{Act}
 use Rattle.jam_engine.specs.declared.graph.Graph.{Graph}

@@ -9,8 +9,8 @@ use Rattle.jam_journal.specs.Tables.{Text}
 use Rattle.jam_journal.specs.Scopes.{Value}
 use Rattle.jam_scope.specs.Rules.{Actions}
 use Rattle.jam_scope.specs.Worlds.{World}
-use Rattle.jam_eval.specs.Faults.{expand}
-use Rattle.jam_eval.specs.Rolled.{is_text, own_at}
+use Rattle.jam_meaning.specs.Faults.{expand}
+use Rattle.jam_meaning.specs.Rolled.{is_text, own_at}
 use Rattle.jam_effects.specs.Rolling.{or_found}
 use Rattle.jam_engine.specs.declared.fault.JamFault.{JamFault}
 use Rattle.jam_engine.specs.declared.fault.JamFault.TheVariants as faults

@@ -2,7 +2,7 @@
 ghost use Rattle.std.specs.Prelude.{◌≡◌, ◌≤◌, [], Err, IfOk};
 ghost use Rattle.b2_host.specs.OutsideLaws.{Keeps};
 ghost use Rattle.jam_grammar.specs.Trees.{whole_tree};
-ghost use Rattle.jam_eval.specs.Settings.{is_file};
+ghost use Rattle.jam_meaning.specs.Settings.{is_file};
 ghost use Rattle.jam_values.specs.FileReadings.{reading_of};
 ghost use Rattle.jam_engine.specs.Graphs.{IsReady};
 ghost use Rattle.jam_engine.specs.Loading.{TellsGraph, TellsReading, IsGraphOf, EndsSo, LoadsFile, LoadsReading, Leaves, Counts, of_eval, of_lex, of_io};

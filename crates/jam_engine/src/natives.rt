@@ -12,7 +12,7 @@ use b2_base::shape::has_shape;
 use b2_base::text::{Text, has_no_zero};
 use b2_base::text_list::{TextList, copy_texts, list_at};
 use b2_host::files::Files;
-use jam_eval::natives::{NativeError, NativeStep, Natives};
+use jam_meaning::natives::{NativeError, NativeStep, Natives};
 use jam_natives::native::is_declaring;
 use jam_natives::natives::JamNatives;
 use jam_scope::world::World;

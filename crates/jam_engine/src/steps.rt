@@ -4,7 +4,7 @@ ghost use Rattle.std.specs.List.{AllByRecursion, flat_map, list_any, list_all, f
 ghost use Rattle.std.specs.Option.{option_copied};
 ghost use Rattle.b2_plan.specs.Sources.{IsInRoots};
 ghost use Rattle.b2_base.specs.Segments.{normal_of};
-ghost use Rattle.jam_natives.specs.Seen.{HasSeen};
+ghost use Rattle.jam_natives.specs.SeenTexts.{HasSeen};
 ghost use Rattle.jam_natives.specs.Texts.{add_new, without_repeats};
 ghost use Rattle.jam_engine.specs.Graphs.{IsReady};
 ghost use Rattle.jam_engine.specs.Acts.{acts_at, is_quiet_in};

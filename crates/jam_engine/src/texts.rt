@@ -2,7 +2,7 @@
 ghost use Rattle.std.specs.Prelude.{◌≡◌, ◌<◌, ◌++◌, All, length, IfOk, IsErrOf, OnOk, string_bytes};
 ghost use Rattle.std.specs.Option.{option_copied};
 ghost use Rattle.b2_base.specs.Bytes.{HasNoZero};
-ghost use Rattle.jam_eval.specs.Rolled.{is_text, own_at};
+ghost use Rattle.jam_meaning.specs.Rolled.{is_text, own_at};
 ghost use Rattle.jam_engine.specs.Graphs.{IsReady};
 ghost use Rattle.jam_engine.specs.Acts.{acts_at};
 ghost use Rattle.jam_engine.specs.Scenes.{HavePaths};

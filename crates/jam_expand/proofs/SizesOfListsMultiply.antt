@@ -4,7 +4,7 @@ use Rattle.std.specs.Prelude.{slice_get, option_map}
 use Rattle.std.proofs.lemmas.List.{length-append, length-map, append-nil, take-append-drop}
 use Rattle.std.proofs.lemmas.Option.{slice_get-map}
 use Rattle.std.proofs.Math.Nat.{zero-mul, suc-mul}
-use Rattle.jam_expand.specs.declared.index.Index.{Index}
+use Rattle.jam_expand.specs.declared.index.IndexRange.{IndexRange}
 use Rattle.jam_expand.specs.Indexes.{place_in, selected}
 use Rattle.jam_expand.specs.Products.{cross, product}
 use Rattle.jam_expand.specs.Sizes.{size_of, IsStretchOf}
@@ -49,7 +49,7 @@ pub product_at : (texts : List (List ℕ)) (lists : List (List (List ℕ))) (i j
     → slice_get (product (texts ∷ lists)) (i * size_of lists + j) ≡ Some (first ++ second)
 product_at texts lists i j first second h g = ap (λ n. slice_get (product (texts ∷ lists)) (i * n + j)) (sym (product_size lists)) ∙ cross_at texts (product lists) i j first second h g
 
-pub selected_stretch : (index : Option Index) (texts : List (List ℕ)) → IsStretchOf (selected index texts) texts
+pub selected_stretch : (index : Option IndexRange) (texts : List (List ℕ)) → IsStretchOf (selected index texts) texts
 selected_stretch None texts = record { before = []; after = []; whole_is = sym (append-nil texts) }
 selected_stretch (Some index) texts =
     let to : ℕ = place_in (length texts) index.to in

@@ -5,7 +5,7 @@ use Rattle.b2_base.specs.declared.expand_fault.ExpandFault.{ExpandFault}
 use Rattle.b2_base.specs.declared.expand_fault.ExpandFault.TheVariants as faults
 use Rattle.jam_expand.specs.declared.index.Position.{Position}
 use Rattle.jam_expand.specs.declared.index.Position.TheVariants.{Front, Back}
-use Rattle.jam_expand.specs.declared.index.Index.{Index}
+use Rattle.jam_expand.specs.declared.index.IndexRange.{IndexRange}
 use Rattle.jam_expand.specs.Cuts.{up_to, from_on}
 
 -- a digit is a byte from 48 to 57
@@ -36,7 +36,7 @@ position_of (byte ∷ bytes) = if byte == 45 then at_back (number_of bytes) else
 abbrev pub last_position : Option Position
 last_position = Some (Back 1)
 
-abbrev pub span : Option Position → Option Position → Option Index
+abbrev pub span : Option Position → Option Position → Option IndexRange
 span None to = None
 span (Some from) None = None
 span (Some from) (Some to) = Some (record { from = from; to = to })
@@ -47,11 +47,11 @@ end_of first [] = position_of first
 end_of first (dash ∷ []) = last_position
 end_of first (dash ∷ byte ∷ bytes) = position_of (byte ∷ bytes)
 
-abbrev pub span_of : List ℕ → List ℕ → Option Index
+abbrev pub span_of : List ℕ → List ℕ → Option IndexRange
 span_of first rest = span (position_of first) (end_of first rest)
 
 -- The index that a text is: a dash that is not its first byte divides it.
-abbrev pub index_of : List ℕ → Option Index
+abbrev pub index_of : List ℕ → Option IndexRange
 index_of [] = None
 index_of (byte ∷ bytes) = span_of (byte ∷ up_to (45 ∷ []) bytes) (from_on (45 ∷ []) bytes)
 
@@ -61,15 +61,15 @@ place_in len (Front number) = number
 place_in len (Back number) = (len + 1) - number
 
 -- the elements at the positions between the two that exist
-abbrev pub selected : Option Index → List (List ℕ) → List (List ℕ)
+abbrev pub selected : Option IndexRange → List (List ℕ) → List (List ℕ)
 selected None texts = texts
 selected (Some index) texts = drop (place_in (length texts) index.from - 1) (take (place_in (length texts) index.to) texts)
 
 -- an index, if one stands, and the text of the modifiers after it
 abbrev pub Indexed : Type 0
-Indexed = Result (Option Index × List ℕ) ExpandFault
+Indexed = Result (Option IndexRange × List ℕ) ExpandFault
 
-abbrev pub bad_unless : List ℕ → Option Index → List ℕ → Indexed
+abbrev pub bad_unless : List ℕ → Option IndexRange → List ℕ → Indexed
 bad_unless text None after = Err (faults.BadIndex text)
 bad_unless text (Some index) after = Ok (Some index, after)
 

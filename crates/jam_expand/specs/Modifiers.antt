@@ -5,8 +5,8 @@ use Rattle.b2_base.specs.declared.expand_fault.ExpandFault.{ExpandFault}
 use Rattle.b2_base.specs.declared.expand_fault.ExpandFault.TheVariants as faults
 use Rattle.jam_path.specs.Names.{parts_of, grist_text, path_text, begins_with, closes_with}
 use Rattle.jam_path.specs.declared.name_parts.NameParts.{NameParts}
-use Rattle.jam_expand.specs.declared.modifiers.Choice.{Choice}
-use Rattle.jam_expand.specs.declared.modifiers.Choice.TheVariants.{Keep, Select, Replace}
+use Rattle.jam_expand.specs.declared.modifiers.PartChange.{PartChange}
+use Rattle.jam_expand.specs.declared.modifiers.PartChange.TheVariants.{Keep, Select, Replace}
 use Rattle.jam_expand.specs.declared.modifiers.Modifiers.{Modifiers}
 use Rattle.jam_expand.specs.Cuts.{up_to}
 
@@ -70,12 +70,12 @@ modified_after (suc skipped) (byte ∷ bytes) modifiers = modified_after skipped
 abbrev pub modified : List ℕ → Modified
 modified text = modified_after 0 text no_modifiers
 
-abbrev pub is_select : Choice → Bool
+abbrev pub is_select : PartChange → Bool
 is_select Keep = false
 is_select Select = true
 is_select (Replace value) = false
 
-abbrev pub is_keep : Choice → Bool
+abbrev pub is_keep : PartChange → Bool
 is_keep Keep = true
 is_keep Select = false
 is_keep (Replace value) = false
@@ -91,7 +91,7 @@ takes_apart modifiers =
     || modifiers.parent || is_some modifiers.root
 
 -- a part stays unless others are selected; a replaced one has its value
-abbrev pub picked : Bool → Choice → List ℕ → List ℕ
+abbrev pub picked : Bool → PartChange → List ℕ → List ℕ
 picked others Keep text = if others then [] else text
 picked others Select text = text
 picked others (Replace value) text = value

@@ -9,7 +9,7 @@ ghost use Rattle.jam_expand.specs.Expansions.{expansion};
 ghost use Rattle.jam_expand.specs.Limits.{within, IsGivenBy, IsLeftBy};
 
 use crate::expand::expand;
-use crate::limit::Gathered;
+use crate::limit::LimitedList;
 pub use b2_base::expand_fault::ExpandFault;
 use b2_base::fault::OutOfMemory;
 use b2_base::look::Look;
@@ -83,7 +83,7 @@ fn joined(alloc: Global, texts: &[Text]) -> Result<String, OutOfMemory>
 /// Adds the text of a word: its elements with one space between them.
 fn add_word<L: Look>(
     alloc: Global,
-    gathered: &mut Gathered,
+    gathered: &mut LimitedList,
     word: &str,
     look: &L,
 ) -> Result<(), ExpandFault>
@@ -100,7 +100,7 @@ fn body_texts<L: Look>(alloc: Global, body: &str, look: &L) -> Result<TextList, 
     requires { HasNoZero body.now }
     ensures { IsGivenBy result (body_texts (L.answer look.now) [] (words body.now)) }
 {
-    let mut gathered = Gathered::new(alloc);
+    let mut gathered = LimitedList::new(alloc);
     let mut rest = body;
     while let Some((word, _, more)) = cut_word(rest) {
         add_word(alloc, &mut gathered, word, look)?;

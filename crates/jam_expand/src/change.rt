@@ -4,7 +4,7 @@ ghost use Rattle.b2_base.specs.Bytes.{HasNoZero};
 ghost use Rattle.jam_path.specs.Names.{parts_of};
 ghost use Rattle.jam_expand.specs.Modifiers.{is_select, is_keep, selects, takes_apart, picked, picked_parts, is_rooted, folder_text, root_text, rooted, cased, changed};
 
-use crate::modifiers::{Choice, Modifiers};
+use crate::modifiers::{Modifiers, PartChange};
 use b2_base::fault::OutOfMemory;
 use b2_base::text::Text;
 use jam_path::name::{parts, push_grist, push_path};
@@ -27,17 +27,17 @@ fn replace(part: &mut Text, value: &Text) -> Result<(), OutOfMemory>
     Ok(())
 }
 
-impl Choice {
+impl PartChange {
     fn is_keep(&self) -> bool
         ensures { result ≡ is_keep self.now }
     {
-        matches!(self, Choice::Keep)
+        matches!(self, PartChange::Keep)
     }
 
     fn is_select(&self) -> bool
         ensures { result ≡ is_select self.now }
     {
-        matches!(self, Choice::Select)
+        matches!(self, PartChange::Select)
     }
 
     /// Changes a part to what stays of it where this is chosen, and `others` tells whether parts are selected.
@@ -45,9 +45,9 @@ impl Choice {
         ensures { OnOk result (part.new ≡ picked others self.now part.old) }
     {
         match self {
-            Choice::Keep if others => empty(alloc, part),
-            Choice::Keep | Choice::Select => Ok(()),
-            Choice::Replace(value) => replace(part, value),
+            PartChange::Keep if others => empty(alloc, part),
+            PartChange::Keep | PartChange::Select => Ok(()),
+            PartChange::Replace(value) => replace(part, value),
         }
     }
 }
@@ -80,7 +80,7 @@ impl Modifiers {
     fn pick_file(
         &self,
         alloc: Global,
-        choice: &Choice,
+        choice: &PartChange,
         others: bool,
         part: &mut Text,
     ) -> Result<(), OutOfMemory>

@@ -9,7 +9,7 @@ ghost use Rattle.jam_expand.specs.Values.{values_of_all};
 ghost use Rattle.jam_expand.specs.Words.{bytes_of, deeper, too_deep};
 
 use crate::gather::values_of_all;
-use crate::limit::Gathered;
+use crate::limit::LimitedList;
 use crate::piece::{Piece, pieces_of};
 use crate::plain::{bare_name, copied, is_plain};
 use crate::product::{product, single};
@@ -65,7 +65,7 @@ fn itself(alloc: Global, word: &str) -> Result<TextList, ExpandFault>
     requires { HasNoZero word.now }
     ensures { IsGivenBy result (within (word.now ∷ [])) }
 {
-    let mut gathered = Gathered::new(alloc);
+    let mut gathered = LimitedList::new(alloc);
     gathered.push(Text::new(alloc, word)?)?;
     Ok(gathered.into_list())
 }

@@ -9,7 +9,7 @@ use crate::change::changed;
 use crate::cut::split_before;
 use crate::glue::glue_texts;
 use crate::index::selected;
-use crate::limit::{Gathered, LIMIT};
+use crate::limit::{LIMIT, LimitedList};
 use crate::modifiers::Modifiers;
 use crate::reference::read_reference;
 use b2_base::expand_fault::ExpandFault;
@@ -21,7 +21,7 @@ use std::alloc::Global;
 /// Adds what the modifiers make of each text.
 fn add_each(
     alloc: Global,
-    gathered: &mut Gathered,
+    gathered: &mut LimitedList,
     modifiers: &Modifiers,
     texts: &[Text],
 ) -> Result<(), ExpandFault>
@@ -37,7 +37,7 @@ fn add_each(
 /// Adds what the modifiers make of the texts with this glue between them.
 fn add_glued(
     alloc: Global,
-    gathered: &mut Gathered,
+    gathered: &mut LimitedList,
     modifiers: &Modifiers,
     glue: &Text,
     texts: &[Text],
@@ -54,7 +54,7 @@ fn add_glued(
 /// Adds what the modifiers make of the texts: each of them, or all as one where they are joined.
 fn add_all(
     alloc: Global,
-    gathered: &mut Gathered,
+    gathered: &mut LimitedList,
     modifiers: &Modifiers,
     texts: &[Text],
 ) -> Result<(), ExpandFault>
@@ -71,7 +71,7 @@ fn add_all(
 /// Adds what the modifiers make of a list: `E`, then each element, then `J`.
 fn add_edited(
     alloc: Global,
-    gathered: &mut Gathered,
+    gathered: &mut LimitedList,
     modifiers: &Modifiers,
     texts: &[Text],
 ) -> Result<(), ExpandFault>
@@ -86,7 +86,7 @@ fn add_edited(
 /// Adds the values of a text: those of its name, after the index and the modifiers.
 fn add_values<L: Look>(
     alloc: Global,
-    gathered: &mut Gathered,
+    gathered: &mut LimitedList,
     text: &Text,
     look: &L,
 ) -> Result<(), ExpandFault>
@@ -106,7 +106,7 @@ pub fn values_of_all<L: Look>(
 ) -> Result<TextList, ExpandFault>
     ensures { IsGivenBy result (values_of_all (L.answer look.now) texts.now) }
 {
-    let mut gathered = Gathered::new(alloc);
+    let mut gathered = LimitedList::new(alloc);
     for text in texts {
         add_values(alloc, &mut gathered, text, look)?;
     }

@@ -12,18 +12,18 @@ use std::alloc::Global;
 
 /// A text that is put together. Past the limit only its length is kept.
 #[derive(Drop)]
-pub struct Glued {
+pub struct GluedText {
     /// The text, as long as it is not above the limit.
     pub text: String,
     /// The length of the whole text.
     pub len: u64,
 }
 
-impl Glued {
-    fn new(alloc: Global) -> Glued
+impl GluedText {
+    fn new(alloc: Global) -> GluedText
         ensures { IsGlued result [] }
     {
-        Glued {
+        GluedText {
             text: String::new(alloc),
             len: 0,
         }
@@ -51,10 +51,10 @@ pub fn glue_texts(
     modifiers: &Modifiers,
     glue: &Text,
     texts: &[Text],
-) -> Result<Glued, OutOfMemory>
+) -> Result<GluedText, OutOfMemory>
     ensures { IfOk result (λ held. IsGlued held (glued_text glue.now (map (changed modifiers.now) texts.now))) }
 {
-    let mut held = Glued::new(alloc);
+    let mut held = GluedText::new(alloc);
     for (place, text) in texts.iter().enumerate() {
         if place > 0 {
             held.append(glue)?;

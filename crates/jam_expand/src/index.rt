@@ -17,7 +17,7 @@ pub enum Position {
 
 /// The positions of a list from one to another.
 #[derive(Clone, Copy, Drop)]
-pub struct Index {
+pub struct IndexRange {
     /// The first position that is selected.
     pub from: Position,
     /// The last position that is selected.
@@ -72,16 +72,16 @@ fn end_of(first: &[u8], rest: &[u8]) -> Option<Position>
     position_of(after)
 }
 
-fn span_of(first: &[u8], rest: &[u8]) -> Option<Index>
+fn span_of(first: &[u8], rest: &[u8]) -> Option<IndexRange>
     ensures { result ≡ span_of first.now rest.now }
 {
     let from = position_of(first)?;
     let to = end_of(first, rest)?;
-    Some(Index { from, to })
+    Some(IndexRange { from, to })
 }
 
 /// The index that a text is: `n`, `n-` up to the last element, or `n-m`.
-pub fn index_of(text: &[u8]) -> Option<Index>
+pub fn index_of(text: &[u8]) -> Option<IndexRange>
     ensures { result ≡ index_of text.now }
 {
     let (_, after) = text.split_first()?;
@@ -102,7 +102,7 @@ fn place_in(len: usize, position: Position) -> usize
 }
 
 /// The elements that an index selects: those at the positions between its two that exist.
-pub fn selected<'a>(texts: &'a [Text], index: Option<Index>) -> &'a [Text]
+pub fn selected<'a>(texts: &'a [Text], index: Option<IndexRange>) -> &'a [Text]
     ensures { result.now ≡ selected index texts.now }
 {
     let Some(index) = index else {

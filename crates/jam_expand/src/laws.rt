@@ -10,7 +10,7 @@ ghost use Rattle.jam_expand.specs.Products.{product};
 ghost use Rattle.jam_expand.specs.Sizes.{size_of, IsStretchOf};
 ghost use Rattle.jam_expand.specs.WordCuts.{written, HasNoPart, HasNoSigns, IsCutInto};
 ghost use Rattle.jam_expand.specs.Words.{Piece, pieces_of};
-ghost use Rattle.jam_expand.specs.declared.index.Index.{Index};
+ghost use Rattle.jam_expand.specs.declared.index.IndexRange.{IndexRange};
 
 /// A word has one cut: from left to right a part where one begins, whose parentheses are balanced, and a literal byte
 /// elsewhere.
@@ -37,7 +37,7 @@ pub fn product_is_ordered()
 
 /// What an index selects stands side by side in the list.
 pub fn selection_is_stretch()
-    ensures { (index : Option Index) (texts : List (List ℕ)) → IsStretchOf (selected index texts) texts }
+    ensures { (index : Option IndexRange) (texts : List (List ℕ)) → IsStretchOf (selected index texts) texts }
 {}
 
 /// A word in which no part begins stands for itself, also with a `$` in it.

@@ -28,20 +28,20 @@ pub fn longer(sum: u64, len: usize) -> Result<u64, ExpandFault>
 }
 
 /// A list of texts that is not too large.
-pub struct Gathered {
+pub struct LimitedList {
     texts: TextList,
     sum: u64,
 }
 
 /// By hand, so that dropping one is one call.
-impl Drop for Gathered {
+impl Drop for LimitedList {
     fn drop(self) {
-        let Gathered { texts, sum: _ } = self;
+        let LimitedList { texts, sum: _ } = self;
         drop(texts);
     }
 }
 
-impl Model for Gathered {
+impl Model for LimitedList {
     ghost use Rattle.std.specs.Prelude.{ℕ, List};
     ghost use Rattle.jam_expand.specs.Limits.{IsWithin};
 
@@ -52,12 +52,12 @@ impl Model for Gathered {
     ghost invariant = { λ gathered. IsWithin gathered.texts gathered.sum };
 }
 
-impl Gathered {
+impl LimitedList {
     /// The empty list.
-    pub fn new(alloc: Global) -> Gathered
+    pub fn new(alloc: Global) -> LimitedList
         ensures { result ≡ [] }
     {
-        Gathered {
+        LimitedList {
             texts: TextList::new(alloc),
             sum: 0,
         }
@@ -106,7 +106,7 @@ impl Gathered {
         ensures value { result ≡ self }
         ensures within { within self ≡ Ok self }
     {
-        let Gathered { texts, sum: _ } = self;
+        let LimitedList { texts, sum: _ } = self;
         texts
     }
 }

@@ -13,7 +13,7 @@ use std::alloc::Global;
 
 /// What a modifier does with a part of a name.
 #[derive(Drop)]
-pub enum Choice {
+pub enum PartChange {
     /// The part stays, unless others are selected.
     Keep,
     /// The part is selected.
@@ -26,15 +26,15 @@ pub enum Choice {
 #[derive(Drop)]
 pub struct Modifiers {
     /// `G`, for the grist.
-    pub grist: Choice,
+    pub grist: PartChange,
     /// `D`, for the directory.
-    pub dir: Choice,
+    pub dir: PartChange,
     /// `B`, for the base.
-    pub base: Choice,
+    pub base: PartChange,
     /// `S`, for the suffix.
-    pub suffix: Choice,
+    pub suffix: PartChange,
     /// `M`, for the member.
-    pub member: Choice,
+    pub member: PartChange,
     /// `P`, which empties base, suffix and member.
     pub parent: bool,
     /// `U`, for upper case.
@@ -54,11 +54,11 @@ impl Modifiers {
         ensures { result ≡ no_modifiers }
     {
         Modifiers {
-            grist: Choice::Keep,
-            dir: Choice::Keep,
-            base: Choice::Keep,
-            suffix: Choice::Keep,
-            member: Choice::Keep,
+            grist: PartChange::Keep,
+            dir: PartChange::Keep,
+            base: PartChange::Keep,
+            suffix: PartChange::Keep,
+            member: PartChange::Keep,
             parent: false,
             upper: false,
             lower: false,
@@ -74,11 +74,11 @@ impl Modifiers {
         ensures { MatchBool result (alone letter self.old ≡ Some self.new) (alone letter self.old ≡ None) }
     {
         match letter {
-            b'G' => self.grist = Choice::Select,
-            b'D' => self.dir = Choice::Select,
-            b'B' => self.base = Choice::Select,
-            b'S' => self.suffix = Choice::Select,
-            b'M' => self.member = Choice::Select,
+            b'G' => self.grist = PartChange::Select,
+            b'D' => self.dir = PartChange::Select,
+            b'B' => self.base = PartChange::Select,
+            b'S' => self.suffix = PartChange::Select,
+            b'M' => self.member = PartChange::Select,
             b'P' => self.parent = true,
             b'U' => self.upper = true,
             b'L' => self.lower = true,
@@ -93,11 +93,11 @@ impl Modifiers {
         ensures { MatchBool result (valued letter value self.old ≡ Some self.new) (valued letter value self.old ≡ None) }
     {
         match letter {
-            b'G' => self.grist = Choice::Replace(value),
-            b'D' => self.dir = Choice::Replace(value),
-            b'B' => self.base = Choice::Replace(value),
-            b'S' => self.suffix = Choice::Replace(value),
-            b'M' => self.member = Choice::Replace(value),
+            b'G' => self.grist = PartChange::Replace(value),
+            b'D' => self.dir = PartChange::Replace(value),
+            b'B' => self.base = PartChange::Replace(value),
+            b'S' => self.suffix = PartChange::Replace(value),
+            b'M' => self.member = PartChange::Replace(value),
             b'E' => self.empty = Some(value),
             b'J' => self.glue = Some(value),
             b'R' => self.root = Some(value),

@@ -7,7 +7,7 @@ ghost use Rattle.jam_expand.specs.Limits.{IsGivenBy};
 ghost use Rattle.jam_expand.specs.References.{reference_of, IsIndexedBy, IsClosedBy};
 
 use crate::cut::{after_sign, split_before};
-use crate::index::{Index, index_of};
+use crate::index::{IndexRange, index_of};
 use crate::modifiers::{Modifiers, read_modifiers};
 use b2_base::expand_fault::ExpandFault;
 use b2_base::text::Text;
@@ -17,7 +17,7 @@ use std::alloc::Global;
 #[derive(Drop)]
 pub struct Reference {
     /// Which elements are selected.
-    pub index: Option<Index>,
+    pub index: Option<IndexRange>,
     /// What is made of them.
     pub modifiers: Modifiers,
 }
@@ -46,7 +46,7 @@ fn after_close(text: &str) -> Option<&str>
 }
 
 /// The index that stands first, if one does, and the text of the modifiers after it.
-fn read_index(alloc: Global, text: &str) -> Result<(Option<Index>, &str), ExpandFault>
+fn read_index(alloc: Global, text: &str) -> Result<(Option<IndexRange>, &str), ExpandFault>
     requires { HasNoZero text.now }
     ensures read { IsIndexedBy result (indexed text.now) }
     ensures no_zero { IfOk result (λ found. HasNoZero found.1.now) }

@@ -1,8 +1,8 @@
 -- Where a file has the modifiers of actions in other orders, it is a file again.
 use Rattle.std.proofs.Common.{◌≡◌, ℕ, zero, suc, ◌+◌, List, [], ◌∷◌, ◌++◌, Bool, true, false, Option, Some, None, nat_le, if◌then◌else◌, refl, sym, ap, ◌∙◌, subst}
 use Rattle.b2_base.specs.declared.token.Token.{Token}
-use Rattle.jam_grammar.specs.declared.mark.Mark.{Mark}
-use Rattle.jam_grammar.specs.declared.mark.Mark.TheVariants as m
+use Rattle.jam_grammar.specs.declared.mark.TokenMark.{TokenMark}
+use Rattle.jam_grammar.specs.declared.mark.TokenMark.TheVariants as m
 use Rattle.jam_grammar.specs.Marks.{mark_of_token, same_mark, only_names}
 use Rattle.jam_grammar.specs.Grammar.{Part, Key, OneWord, OneName, LastWord, Shut, Stmts, OneStmt, Tail, Assigned, LocalTail, ForTail, RuleTail, OneElse, ElseTail, OneBlock, CaseBlock, Cases, BodyBlock, Heading, Headed, ParamBlock, Params, MoreParams, Names, NameTail, OneArg, OneInner, InnerTail, Args, More, OneExpr, Both, Single, OrTail, AndTail, Compared, opens, Derives, IsFile}
 use Rattle.jam_grammar.specs.Machine.{Move, Take, Room, Skip, Refuse, or_skip, move, move_key, move_word, move_modifier, move_heading, by_move, feed}
@@ -48,7 +48,7 @@ ready_by false (Room n own) = all_plain own
 ready_by b Skip = true
 ready_by b Refuse = true
 
-ready_key : (want mark : Mark) (b : Bool) → is_plain (Key want) ≡ true → same_mark want mark ≡ b → ready_by (same_mark m.Actions mark) (move_key b) ≡ true
+ready_key : (want mark : TokenMark) (b : Bool) → is_plain (Key want) ≡ true → same_mark want mark ≡ b → ready_by (same_mark m.Actions mark) (move_key b) ≡ true
 ready_key want m.Actions true p e = let bad : false ≡ true = ap (λ x. is_plain (Key x)) (sym (same_mark_true want m.Actions e)) ∙ p in cc
 ready_key want m.Actions false p e = refl
 ready_key want mark true p e = refl
@@ -58,7 +58,7 @@ ready_modifier : (b : Bool) (next : Part) → is_plain next ≡ true → ready_b
 ready_modifier true next h = refl
 ready_modifier false next h = ap (λ x. both x true) h
 
-ready_heading : (t e q : Bool) (mark : Mark) → ready_by (same_mark m.Actions mark) (move_heading t e q mark) ≡ true
+ready_heading : (t e q : Bool) (mark : TokenMark) → ready_by (same_mark m.Actions mark) (move_heading t e q mark) ≡ true
 ready_heading t e q m.Together = ready_modifier t (Headed true e q) refl
 ready_heading t e q m.Existing = ready_modifier e (Headed t true q) refl
 ready_heading t e q m.Quietly = ready_modifier q (Headed t e true) refl
@@ -72,7 +72,7 @@ ready_skip false Skip h = refl
 ready_skip true Refuse h = refl
 ready_skip false Refuse h = refl
 
-ready_last : (t e q : Bool) (mark : Mark) → ready_by (same_mark m.Actions mark) (move_word (only_names t e q mark) []) ≡ true
+ready_last : (t e q : Bool) (mark : TokenMark) → ready_by (same_mark m.Actions mark) (move_word (only_names t e q mark) []) ≡ true
 ready_last t e q m.Together = by t
   where
     by : (b : Bool) → ready_by false (move_word b []) ≡ true
@@ -90,7 +90,7 @@ ready_last t e q m.Quietly = by q
     by false = refl
 ready_last t e q _ = refl
 
-ready : (part : Part) → is_plain part ≡ true → (mark : Mark) → ready_by (same_mark m.Actions mark) (move part mark) ≡ true
+ready : (part : Part) → is_plain part ≡ true → (mark : TokenMark) → ready_by (same_mark m.Actions mark) (move part mark) ≡ true
 ready (Key want) p mark = ready_key want mark (same_mark want mark) p refl
 ready (LastWord t e q) p mark = ready_last t e q mark
 ready (Heading t e q) p mark = ready_heading t e q mark
@@ -152,7 +152,7 @@ opened true n own more next h e p =
 opened false n own more next h e p = subst ArePlain e (plain_append own more h p)
 
 -- what is left by a mark
-left_ready : (parts : List Part) (mark : Mark) (next : List Part) → feed parts mark ≡ Some next → ArePlain parts → Ready (same_mark m.Actions mark) next
+left_ready : (parts : List Part) (mark : TokenMark) (next : List Part) → feed parts mark ≡ Some next → ArePlain parts → Ready (same_mark m.Actions mark) next
 left_ready [] mark next h p = cc
 left_ready (part ∷ more) mark next h p = by (move part mark) (ready part p.0 mark) h (λ again. left_ready more mark next again p.1)
   where
@@ -222,7 +222,7 @@ reads {t} {e} {q} {left} more (s.quietly {tokens} is w) =
 
 pub data Turned : Bool → List Token → List Token → Type 0 where
   done : Turned false [] []
-  same : {t u : Token} {ts us : List Token} (mark : Mark) → mark_of_token t ≡ mark → mark_of_token u ≡ mark → Turned (same_mark m.Actions mark) ts us → Turned false (t ∷ ts) (u ∷ us)
+  same : {t u : Token} {ts us : List Token} (mark : TokenMark) → mark_of_token t ≡ mark → mark_of_token u ≡ mark → Turned (same_mark m.Actions mark) ts us → Turned false (t ∷ ts) (u ∷ us)
   heading : {t e q : Bool} {ts us left right : List Token} → Switches false false false t e q ts left → Switches false false false t e q us right → Turned false left right → Turned true ts us
 
 turned : {b : Bool} {ts us : List Token} → Turned b ts us → (parts : List Part) → Ready b parts → accepts (marks ts) parts ≡ true → accepts (marks us) parts ≡ true
@@ -237,7 +237,7 @@ turned (heading {t} {e} {q} {ts} {us} {left} {right} w r more) parts p h =
     let there : accepts (marks left) (after t e q ∷ p.0) ≡ true = sym (reads p.0 w) ∙ ap (accepts (marks ts)) (sym p.1) ∙ h in
     ap (accepts (marks us)) p.1 ∙ reads p.0 r ∙ turned more (after t e q ∷ p.0) (after_plain t e q, p.2) there
 
-accepted : (ms : List Mark) (parts : List Part) → HasRoom parts → accepts ms parts ≡ true → Derives parts ms
+accepted : (ms : List TokenMark) (parts : List Part) → HasRoom parts → accepts ms parts ≡ true → Derives parts ms
 accepted [] parts r h = ends_whole parts r h
 accepted (mark ∷ ms) parts r h = by (feed parts mark) refl h (λ next room k. accepted ms next room k)
   where

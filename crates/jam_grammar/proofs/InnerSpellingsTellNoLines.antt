@@ -1,7 +1,7 @@
 -- The spellings of arguments, conditions and parameters tell no lines, and each of their keys has one text.
 use Rattle.std.proofs.Common.{◌≡◌, ℕ, List, [], ◌∷◌, ◌++◌, Bool, true, false, Option, Some, None, ◌==◌, if◌then◌else◌, flat_map, refl}
-use Rattle.jam_grammar.specs.declared.mark.Mark.{Mark}
-use Rattle.jam_grammar.specs.declared.mark.Mark.TheVariants as m
+use Rattle.jam_grammar.specs.declared.mark.TokenMark.{TokenMark}
+use Rattle.jam_grammar.specs.declared.mark.TokenMark.TheVariants as m
 use Rattle.jam_grammar.specs.declared.tree.Sign.{Sign}
 use Rattle.jam_grammar.specs.declared.tree.Sign.TheVariants as signs
 use Rattle.jam_grammar.specs.declared.tree.Param.{Param}
@@ -10,7 +10,7 @@ use Rattle.jam_grammar.specs.Spelling.{Sym, Key, Heads, Says, Named, Raw, From, 
 use Rattle.jam_grammar.proofs.MarkTellsWhatTokenSays.{has_text}
 
 -- the marks whose tokens say one text, but for the key before headings
-abbrev pub stands : Mark → Bool
+abbrev pub stands : TokenMark → Bool
 stands m.Actions = false
 stands mark = has_text mark
 
@@ -75,15 +75,15 @@ mutual
   steady_expr level (Differ a b) = steady_append (spell_arg a) _ (steady_arg a) (refl, steady_arg b)
   steady_expr level (Within a list) = steady_append (spell_arg a) _ (steady_arg a) (refl, steady_args list)
 
-  steady_pair : (level : Level) (mark : Mark) → stands mark ≡ true → (xs : ExprTrees) → Steady (spell_pair level mark xs)
+  steady_pair : (level : Level) (mark : TokenMark) → stands mark ≡ true → (xs : ExprTrees) → Steady (spell_pair level mark xs)
   steady_pair level mark h NoExprs = tt
   steady_pair level mark h (ExprAnd first rest) = steady_append (spell_expr level first) _ (steady_expr level first) (steady_second level mark h rest)
 
-  steady_second : (level : Level) (mark : Mark) → stands mark ≡ true → (xs : ExprTrees) → Steady (spell_second level mark xs)
+  steady_second : (level : Level) (mark : TokenMark) → stands mark ≡ true → (xs : ExprTrees) → Steady (spell_second level mark xs)
   steady_second level mark h NoExprs = tt
   steady_second level mark h (ExprAnd first rest) = (h, steady_append (spell_expr level first) _ (steady_expr level first) (steady_joined level mark h rest))
 
-  steady_joined : (level : Level) (mark : Mark) → stands mark ≡ true → (xs : ExprTrees) → Steady (spell_joined level mark xs)
+  steady_joined : (level : Level) (mark : TokenMark) → stands mark ≡ true → (xs : ExprTrees) → Steady (spell_joined level mark xs)
   steady_joined level mark h NoExprs = tt
   steady_joined level mark h (ExprAnd first rest) = (h, steady_append (spell_expr level first) _ (steady_expr level first) (steady_joined level mark h rest))
 
@@ -115,7 +115,7 @@ steady_sign signs.Set = refl
 steady_sign signs.Add = refl
 steady_sign signs.Fill = refl
 
-pub steady_set : (mark : Mark) (syms : List Sym) → stands mark ≡ true → Steady syms → Steady (set_syms mark syms)
+pub steady_set : (mark : TokenMark) (syms : List Sym) → stands mark ≡ true → Steady syms → Steady (set_syms mark syms)
 steady_set mark syms h k = (h, steady_append syms _ k (refl, tt))
 
 pub steady_value : (value : Option ArgTrees) → Steady (value_syms value)

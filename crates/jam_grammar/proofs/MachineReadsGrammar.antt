@@ -1,7 +1,7 @@
 -- What the grammar derives the machine reads.
 use Rattle.std.proofs.Common.{◌≡◌, ℕ, zero, suc, ◌+◌, ◌≤◌, List, [], ◌∷◌, ◌++◌, Bool, true, false, Option, Some, None, nat_le, if◌then◌else◌, refl, sym, ap, ◌∙◌, subst, arith}
-use Rattle.jam_grammar.specs.declared.mark.Mark.{Mark}
-use Rattle.jam_grammar.specs.declared.mark.Mark.TheVariants as m
+use Rattle.jam_grammar.specs.declared.mark.TokenMark.{TokenMark}
+use Rattle.jam_grammar.specs.declared.mark.TokenMark.TheVariants as m
 use Rattle.jam_grammar.specs.Marks.{same_mark, is_word}
 use Rattle.jam_grammar.specs.Grammar.{Part, Key, OneWord, OneName, LastWord, Shut, Stmts, OneStmt, Tail, Assigned, LocalTail, ForTail, RuleTail, OneElse, ElseTail, OneBlock, CaseBlock, Cases, BodyBlock, Heading, Headed, ParamBlock, Params, MoreParams, Names, NameTail, OneArg, OneInner, InnerTail, Args, More, OneExpr, Both, Single, OrTail, AndTail, Compared, opens, Line, Derives}
 use Rattle.jam_grammar.specs.Grammar as g
@@ -15,40 +15,40 @@ abbrev pub and_then : Option (List Part) → (List Part → Bool) → Bool
 and_then None go = false
 and_then (Some parts) go = go parts
 
-abbrev pub accepts : List Mark → List Part → Bool
+abbrev pub accepts : List TokenMark → List Part → Bool
 accepts [] parts = may_end parts
 accepts (mark ∷ marks) parts = and_then (feed parts mark) (accepts marks)
 
 -- the marks that may begin what comes after a part only where the part cannot go on with them
-abbrev begins_arg : Mark → Bool
+abbrev begins_arg : TokenMark → Bool
 begins_arg mark = is_read (move OneArg mark)
 
 abbrev either : Bool → Bool → Bool
 either true b = true
 either false b = b
 
-abbrev is_else : Mark → Bool
+abbrev is_else : TokenMark → Bool
 is_else mark = same_mark m.Else mark
 
-abbrev is_colon : Mark → Bool
+abbrev is_colon : TokenMark → Bool
 is_colon mark = same_mark m.Colon mark
 
-abbrev compares : Mark → Bool
+abbrev compares : TokenMark → Bool
 compares mark = either (is_read (move Compared mark)) (begins_arg mark)
 
-abbrev joins : Mark → Bool
+abbrev joins : TokenMark → Bool
 joins mark = either (same_mark m.And mark) (compares mark)
 
-abbrev chooses : Mark → Bool
+abbrev chooses : TokenMark → Bool
 chooses mark = either (same_mark m.Or mark) (joins mark)
 
-abbrev follows : Mark → Bool
+abbrev follows : TokenMark → Bool
 follows mark = either (is_read (move OneStmt mark)) (is_else mark)
 
-abbrev marks_name : Mark → Bool
+abbrev marks_name : TokenMark → Bool
 marks_name mark = is_read (move NameTail mark)
 
-abbrev pub goes_on : Part → Mark → Bool
+abbrev pub goes_on : Part → TokenMark → Bool
 goes_on Stmts mark = follows mark
 goes_on OneStmt mark = is_else mark
 goes_on OneElse mark = is_else mark
@@ -74,7 +74,7 @@ goes_on _ mark = false
 
 -- what comes after a part does not begin with them
 abbrev pub Clash : Part → List Part → Type 0
-Clash part more = (mark : Mark) → goes_on part mark ≡ true → feed more mark ≡ None
+Clash part more = (mark : TokenMark) → goes_on part mark ≡ true → feed more mark ≡ None
 
 abbrev pub IsClear : List Part → Type 0
 IsClear [] = Unit {0}
@@ -87,7 +87,7 @@ refuses_by (Room n own) next = false
 refuses_by Skip next = next
 refuses_by Refuse next = true
 
-abbrev refuses : Part → List Part → Mark → Bool
+abbrev refuses : Part → List Part → TokenMark → Bool
 refuses part [] mark = goes_on part mark
 refuses part (next ∷ rest) mark = refuses_by (move next mark) (refuses part rest mark)
 
@@ -102,7 +102,7 @@ abbrev clear_parts : Part → List Part → Bool
 clear_parts part [] = true
 clear_parts part (next ∷ rest) = both (clear_before part next rest) (clear_parts part rest)
 
-refused : (part : Part) (rest more : List Part) (mark : Mark) → Clash part more → refuses part rest mark ≡ true → feed (rest ++ more) mark ≡ None
+refused : (part : Part) (rest more : List Part) (mark : TokenMark) → Clash part more → refuses part rest mark ≡ true → feed (rest ++ more) mark ≡ None
 refused part [] more mark clash h = clash mark h
 refused part (next ∷ rest) more mark clash h = by (move next mark) h (λ again. refused part rest more mark clash again)
   where
@@ -289,7 +289,7 @@ line_empty g.differ = refl
 line_empty g.within = refl
 
 -- the move of a line's parts is that of its part, or they refuse the mark
-abbrev Agrees : Part → Mark → Move → Move → Type 0
+abbrev Agrees : Part → TokenMark → Move → Move → Type 0
 Agrees part mark Refuse own = Unit {0}
 Agrees part mark Skip Skip = Unit {0}
 Agrees part mark Skip (Take own) = goes_on part mark ≡ true
@@ -305,7 +305,7 @@ Agrees part mark (Room n by) Skip = ⊥
 Agrees part mark (Room n by) Refuse = ⊥
 
 -- a line that begins with a key
-key_agrees : (part : Part) (want : Mark) (rest : List Part) → Agrees part want (Take rest) (move part want) → (mark : Mark) → Agrees part mark (lead (Key want ∷ rest) mark) (move part mark)
+key_agrees : (part : Part) (want : TokenMark) (rest : List Part) → Agrees part want (Take rest) (move part want) → (mark : TokenMark) → Agrees part mark (lead (Key want ∷ rest) mark) (move part mark)
 key_agrees part want rest h mark = by (same_mark want mark) refl
   where
     by : (b : Bool) → same_mark want mark ≡ b → Agrees part mark (followed (move_key b) rest (lead rest mark)) (move part mark)
@@ -317,7 +317,7 @@ abbrev skips_by : Move → Bool → Bool
 skips_by Skip next = true
 skips_by _ next = next
 
-empty_agrees : (part : Part) → every_mark (λ mark. skips_by (move part mark) (goes_on part mark)) ≡ true → (mark : Mark) → Agrees part mark (lead [] mark) (move part mark)
+empty_agrees : (part : Part) → every_mark (λ mark. skips_by (move part mark) (goes_on part mark)) ≡ true → (mark : TokenMark) → Agrees part mark (lead [] mark) (move part mark)
 empty_agrees part h mark = by (move part mark) (at_each (λ x. skips_by (move part x) (goes_on part x)) h mark)
   where
     by : (v : Move) → skips_by v (goes_on part mark) ≡ true → Agrees part mark Skip v
@@ -326,11 +326,11 @@ empty_agrees part h mark = by (move part mark) (at_each (λ x. skips_by (move pa
     by Skip h = tt
     by Refuse h = h
 
-no_list_agrees : (n : ℕ) (mark : Mark) → Agrees (More n) mark (lead [] mark) (move (More n) mark)
+no_list_agrees : (n : ℕ) (mark : TokenMark) → Agrees (More n) mark (lead [] mark) (move (More n) mark)
 no_list_agrees zero mark = empty_agrees (More zero) refl mark
 no_list_agrees (suc n) mark = empty_agrees (More (suc n)) refl mark
 
-more_stmts_agrees : (mark : Mark) → Agrees Stmts mark (lead (OneStmt ∷ Stmts ∷ []) mark) (move Stmts mark)
+more_stmts_agrees : (mark : TokenMark) → Agrees Stmts mark (lead (OneStmt ∷ Stmts ∷ []) mark) (move Stmts mark)
 more_stmts_agrees m.Plain = refl
 more_stmts_agrees m.Query = refl
 more_stmts_agrees m.Star = refl
@@ -353,11 +353,11 @@ more_stmts_agrees m.Actions = (refl, refl)
 more_stmts_agrees m.On = (refl, refl)
 more_stmts_agrees _ = tt
 
-a_block_agrees : (mark : Mark) → Agrees OneStmt mark (lead (OneBlock ∷ []) mark) (move OneStmt mark)
+a_block_agrees : (mark : TokenMark) → Agrees OneStmt mark (lead (OneBlock ∷ []) mark) (move OneStmt mark)
 a_block_agrees m.BraceOpen = (refl, refl)
 a_block_agrees _ = tt
 
-by_arg_agrees : (mark : Mark) → Agrees OneStmt mark (lead (OneArg ∷ Tail ∷ []) mark) (move OneStmt mark)
+by_arg_agrees : (mark : TokenMark) → Agrees OneStmt mark (lead (OneArg ∷ Tail ∷ []) mark) (move OneStmt mark)
 by_arg_agrees m.Plain = refl
 by_arg_agrees m.Query = refl
 by_arg_agrees m.Star = refl
@@ -368,7 +368,7 @@ by_arg_agrees m.Quietly = refl
 by_arg_agrees m.SquareOpen = (refl, refl)
 by_arg_agrees _ = tt
 
-a_call_agrees : (mark : Mark) → Agrees Tail mark (lead (Args ∷ More 8 ∷ Key m.Semicolon ∷ []) mark) (move Tail mark)
+a_call_agrees : (mark : TokenMark) → Agrees Tail mark (lead (Args ∷ More 8 ∷ Key m.Semicolon ∷ []) mark) (move Tail mark)
 a_call_agrees m.Plain = refl
 a_call_agrees m.Query = refl
 a_call_agrees m.Star = refl
@@ -381,7 +381,7 @@ a_call_agrees m.Colon = refl
 a_call_agrees m.Semicolon = refl
 a_call_agrees _ = tt
 
-for_name_agrees : (mark : Mark) → Agrees ForTail mark (lead (OneWord ∷ Key m.In ∷ Args ∷ OneBlock ∷ []) mark) (move ForTail mark)
+for_name_agrees : (mark : TokenMark) → Agrees ForTail mark (lead (OneWord ∷ Key m.In ∷ Args ∷ OneBlock ∷ []) mark) (move ForTail mark)
 for_name_agrees m.Plain = refl
 for_name_agrees m.Query = refl
 for_name_agrees m.Star = refl
@@ -391,19 +391,19 @@ for_name_agrees m.Existing = refl
 for_name_agrees m.Quietly = refl
 for_name_agrees _ = tt
 
-else_block_agrees : (mark : Mark) → Agrees ElseTail mark (lead (OneBlock ∷ []) mark) (move ElseTail mark)
+else_block_agrees : (mark : TokenMark) → Agrees ElseTail mark (lead (OneBlock ∷ []) mark) (move ElseTail mark)
 else_block_agrees m.BraceOpen = (refl, refl)
 else_block_agrees _ = tt
 
-with_params_agrees : (mark : Mark) → Agrees RuleTail mark (lead (ParamBlock ∷ OneBlock ∷ []) mark) (move RuleTail mark)
+with_params_agrees : (mark : TokenMark) → Agrees RuleTail mark (lead (ParamBlock ∷ OneBlock ∷ []) mark) (move RuleTail mark)
 with_params_agrees m.ParenOpen = (refl, refl)
 with_params_agrees _ = tt
 
-without_params_agrees : (mark : Mark) → Agrees RuleTail mark (lead (OneBlock ∷ []) mark) (move RuleTail mark)
+without_params_agrees : (mark : TokenMark) → Agrees RuleTail mark (lead (OneBlock ∷ []) mark) (move RuleTail mark)
 without_params_agrees m.BraceOpen = (refl, refl)
 without_params_agrees _ = tt
 
-a_list_agrees : (mark : Mark) → Agrees Params mark (lead (Names ∷ MoreParams ∷ []) mark) (move Params mark)
+a_list_agrees : (mark : TokenMark) → Agrees Params mark (lead (Names ∷ MoreParams ∷ []) mark) (move Params mark)
 a_list_agrees m.Plain = refl
 a_list_agrees m.Together = refl
 a_list_agrees m.Existing = refl
@@ -414,7 +414,7 @@ a_list_agrees m.Star = refl
 a_list_agrees m.Plus = tt
 a_list_agrees _ = tt
 
-unmarked_agrees : (mark : Mark) → Agrees NameTail mark (lead (Names ∷ []) mark) (move NameTail mark)
+unmarked_agrees : (mark : TokenMark) → Agrees NameTail mark (lead (Names ∷ []) mark) (move NameTail mark)
 unmarked_agrees m.Plain = refl
 unmarked_agrees m.Query = refl
 unmarked_agrees m.Star = refl
@@ -424,7 +424,7 @@ unmarked_agrees m.Existing = refl
 unmarked_agrees m.Quietly = refl
 unmarked_agrees _ = tt
 
-a_name_agrees : (mark : Mark) → Agrees Names mark (lead (OneName ∷ NameTail ∷ []) mark) (move Names mark)
+a_name_agrees : (mark : TokenMark) → Agrees Names mark (lead (OneName ∷ NameTail ∷ []) mark) (move Names mark)
 a_name_agrees m.Plain = refl
 a_name_agrees m.Together = refl
 a_name_agrees m.Existing = refl
@@ -432,7 +432,7 @@ a_name_agrees m.Quietly = refl
 a_name_agrees _ = tt
 
 -- headings of actions
-the_name_agrees : (t e q : Bool) (mark : Mark) → Agrees (Heading t e q) mark (lead (LastWord t e q ∷ []) mark) (move (Heading t e q) mark)
+the_name_agrees : (t e q : Bool) (mark : TokenMark) → Agrees (Heading t e q) mark (lead (LastWord t e q ∷ []) mark) (move (Heading t e q) mark)
 the_name_agrees t e q m.Together = by t
   where
     by : (b : Bool) → Agrees (Heading b e q) m.Together (lead (LastWord b e q ∷ []) m.Together) (move (Heading b e q) m.Together)
@@ -454,7 +454,7 @@ the_name_agrees t e q m.Star = refl
 the_name_agrees t e q m.Plus = refl
 the_name_agrees t e q _ = tt
 
-no_word_agrees : (t e q : Bool) (mark : Mark) → Agrees (Headed t e q) mark (lead [] mark) (move (Headed t e q) mark)
+no_word_agrees : (t e q : Bool) (mark : TokenMark) → Agrees (Headed t e q) mark (lead [] mark) (move (Headed t e q) mark)
 no_word_agrees t e q m.Together = by t
   where
     by : (b : Bool) → Agrees (Headed b e q) m.Together (lead [] m.Together) (move (Headed b e q) m.Together)
@@ -476,7 +476,7 @@ no_word_agrees t e q m.Star = refl
 no_word_agrees t e q m.Plus = refl
 no_word_agrees t e q _ = tt
 
-more_words_agrees : (t e q : Bool) (mark : Mark) → Agrees (Headed t e q) mark (lead (Heading t e q ∷ []) mark) (move (Headed t e q) mark)
+more_words_agrees : (t e q : Bool) (mark : TokenMark) → Agrees (Headed t e q) mark (lead (Heading t e q ∷ []) mark) (move (Headed t e q) mark)
 more_words_agrees t e q m.Together = by t
   where
     by : (b : Bool) → Agrees (Headed b e q) m.Together (lead (Heading b e q ∷ []) m.Together) (move (Headed b e q) m.Together)
@@ -498,7 +498,7 @@ more_words_agrees t e q m.Star = refl
 more_words_agrees t e q m.Plus = refl
 more_words_agrees t e q _ = tt
 
-a_word_agrees : (mark : Mark) → Agrees OneArg mark (lead (OneWord ∷ []) mark) (move OneArg mark)
+a_word_agrees : (mark : TokenMark) → Agrees OneArg mark (lead (OneWord ∷ []) mark) (move OneArg mark)
 a_word_agrees m.Plain = refl
 a_word_agrees m.Query = refl
 a_word_agrees m.Star = refl
@@ -508,7 +508,7 @@ a_word_agrees m.Existing = refl
 a_word_agrees m.Quietly = refl
 a_word_agrees _ = tt
 
-inner_call_agrees : (mark : Mark) → Agrees OneInner mark (lead (OneArg ∷ Args ∷ More 8 ∷ []) mark) (move OneInner mark)
+inner_call_agrees : (mark : TokenMark) → Agrees OneInner mark (lead (OneArg ∷ Args ∷ More 8 ∷ []) mark) (move OneInner mark)
 inner_call_agrees m.Plain = refl
 inner_call_agrees m.Query = refl
 inner_call_agrees m.Star = refl
@@ -519,7 +519,7 @@ inner_call_agrees m.Quietly = refl
 inner_call_agrees m.SquareOpen = (refl, refl)
 inner_call_agrees _ = tt
 
-on_inner_agrees : (mark : Mark) → Agrees InnerTail mark (lead (OneInner ∷ []) mark) (move InnerTail mark)
+on_inner_agrees : (mark : TokenMark) → Agrees InnerTail mark (lead (OneInner ∷ []) mark) (move InnerTail mark)
 on_inner_agrees m.Plain = refl
 on_inner_agrees m.Query = refl
 on_inner_agrees m.Star = refl
@@ -531,7 +531,7 @@ on_inner_agrees m.SquareOpen = (refl, refl)
 on_inner_agrees m.On = (refl, refl)
 on_inner_agrees _ = tt
 
-more_args_agrees : (mark : Mark) → Agrees Args mark (lead (OneArg ∷ Args ∷ []) mark) (move Args mark)
+more_args_agrees : (mark : TokenMark) → Agrees Args mark (lead (OneArg ∷ Args ∷ []) mark) (move Args mark)
 more_args_agrees m.Plain = refl
 more_args_agrees m.Query = refl
 more_args_agrees m.Star = refl
@@ -542,7 +542,7 @@ more_args_agrees m.Quietly = refl
 more_args_agrees m.SquareOpen = (refl, refl)
 more_args_agrees _ = tt
 
-an_or_agrees : (mark : Mark) → Agrees OneExpr mark (lead (Both ∷ OrTail ∷ []) mark) (move OneExpr mark)
+an_or_agrees : (mark : TokenMark) → Agrees OneExpr mark (lead (Both ∷ OrTail ∷ []) mark) (move OneExpr mark)
 an_or_agrees m.Plain = refl
 an_or_agrees m.Query = refl
 an_or_agrees m.Star = refl
@@ -555,7 +555,7 @@ an_or_agrees m.Not = (refl, refl)
 an_or_agrees m.ParenOpen = (refl, refl)
 an_or_agrees _ = tt
 
-an_and_agrees : (mark : Mark) → Agrees Both mark (lead (Single ∷ AndTail ∷ []) mark) (move Both mark)
+an_and_agrees : (mark : TokenMark) → Agrees Both mark (lead (Single ∷ AndTail ∷ []) mark) (move Both mark)
 an_and_agrees m.Plain = refl
 an_and_agrees m.Query = refl
 an_and_agrees m.Star = refl
@@ -568,7 +568,7 @@ an_and_agrees m.Not = (refl, refl)
 an_and_agrees m.ParenOpen = (refl, refl)
 an_and_agrees _ = tt
 
-of_arg_agrees : (mark : Mark) → Agrees Single mark (lead (OneArg ∷ Compared ∷ []) mark) (move Single mark)
+of_arg_agrees : (mark : TokenMark) → Agrees Single mark (lead (OneArg ∷ Compared ∷ []) mark) (move Single mark)
 of_arg_agrees m.Plain = refl
 of_arg_agrees m.Query = refl
 of_arg_agrees m.Star = refl
@@ -579,7 +579,7 @@ of_arg_agrees m.Quietly = refl
 of_arg_agrees m.SquareOpen = (refl, refl)
 of_arg_agrees _ = tt
 
-agrees : {part : Part} {by : List Part} → Line part by → (mark : Mark) → Agrees part mark (lead by mark) (move part mark)
+agrees : {part : Part} {by : List Part} → Line part by → (mark : TokenMark) → Agrees part mark (lead by mark) (move part mark)
 agrees g.no_stmt mark = empty_agrees Stmts refl mark
 agrees g.more_stmts mark = more_stmts_agrees mark
 agrees g.in_braces mark = key_agrees OneBlock m.BraceOpen (Stmts ∷ Key m.BraceClose ∷ []) (refl, refl) mark
@@ -660,7 +660,7 @@ agrees g.differ mark = key_agrees Compared m.NotEquals (OneArg ∷ []) refl mark
 agrees g.within mark = key_agrees Compared m.In (Args ∷ []) refl mark
 
 -- what is read by a line of a part is read as the part
-line_read : (part : Part) (by more : List Part) (marks : List Mark) → Line part by → Clash part more → HasRoom (by ++ more) → accepts marks (by ++ more) ≡ true → accepts marks (part ∷ more) ≡ true
+line_read : (part : Part) (by more : List Part) (marks : List TokenMark) → Line part by → Clash part more → HasRoom (by ++ more) → accepts marks (by ++ more) ≡ true → accepts marks (part ∷ more) ≡ true
 line_read part by more [] line clash room h = empty (may_be_empty part) (ends by h) (line_empty line)
   where
     ends : (parts : List Part) → may_end (parts ++ more) ≡ true → both (all_empty parts) (may_end more) ≡ true
@@ -699,12 +699,12 @@ line_read part by more (mark ∷ marks) line clash room h = compare (lead by mar
     compare (Room n own) Skip a f h = absurd a
     compare (Room n own) Refuse a f h = absurd a
 
-shut_read : (more : List Part) (marks : List Mark) → accepts marks more ≡ true → accepts marks (Shut ∷ more) ≡ true
+shut_read : (more : List Part) (marks : List TokenMark) → accepts marks more ≡ true → accepts marks (Shut ∷ more) ≡ true
 shut_read more [] h = h
 shut_read more (mark ∷ marks) h = h
 
 -- what the grammar derives the machine accepts
-pub complete : {parts : List Part} {marks : List Mark} → Derives parts marks → IsClear parts → accepts marks parts ≡ true
+pub complete : {parts : List Part} {marks : List TokenMark} → Derives parts marks → IsClear parts → accepts marks parts ≡ true
 complete g.nothing clear = refl
 complete (g.key {mark} {parts} {marks} room d) clear = ap (λ b. and_then (by_move (move_key b) parts (feed parts) mark) (accepts marks)) (same_mark_refl mark) ∙ complete d clear.1
 complete (g.word {mark} {parts} {marks} is room d) clear = ap (λ b. and_then (by_move (move_word b []) parts (feed parts) mark) (accepts marks)) is ∙ complete d clear.1

@@ -2,7 +2,7 @@
 use Rattle.std.proofs.Common.{◌≡◌, ℕ, ◌⊎◌, inl, inr, List, [], ◌∷◌, ◌++◌, Bool, true, false, Option, Some, None, refl, sym, ap, ◌∙◌, subst, append_assoc, arith}
 use Rattle.std.proofs.lemmas.List.{append-nil}
 use Rattle.b2_base.specs.declared.token.Token.{Token}
-use Rattle.jam_grammar.specs.declared.mark.Mark.{Mark}
+use Rattle.jam_grammar.specs.declared.mark.TokenMark.{TokenMark}
 use Rattle.jam_grammar.specs.Marks.{mark_of_token}
 use Rattle.jam_grammar.specs.Grammar.{Part, Stmts, Derives, IsFile, Begins}
 use Rattle.jam_grammar.specs.Grammar as g
@@ -23,8 +23,8 @@ record Found (tokens at : List Token) (parts : List Part) : Type 0 where
   split : tokens ≡ prefix ++ at
   left : List Part
   room : HasRoom left
-  back : (ms : List Mark) → Derives left ms → Derives parts (marks prefix ++ ms)
-  forth : (ms : List Mark) → accepts (marks prefix ++ ms) parts ≡ accepts ms left
+  back : (ms : List TokenMark) → Derives left ms → Derives parts (marks prefix ++ ms)
+  forth : (ms : List TokenMark) → accepts (marks prefix ++ ms) parts ≡ accepts ms left
   stuck : Stuck left at
 
 found : (tokens at : List Token) (parts : List Part) → HasRoom parts → run tokens parts ≡ Bad at → Found tokens at parts
@@ -126,10 +126,10 @@ marks_append : (a b : List Token) → marks (a ++ b) ≡ marks a ++ marks b
 marks_append [] b = refl
 marks_append (t ∷ a) b = ap (λ x. mark_of_token t ∷ x) (marks_append a b)
 
-begins_earlier : (a b : List Mark) → Begins (a ++ b) → Begins a
+begins_earlier : (a b : List TokenMark) → Begins (a ++ b) → Begins a
 begins_earlier a b d = (b ++ d.0, subst IsFile (append_assoc a b d.0) d.1)
 
-file_begins : (a : List Mark) → IsFile a → Begins a
+file_begins : (a : List TokenMark) → IsFile a → Begins a
 file_begins a d = ([], subst IsFile (sym (append-nil a)) d)
 
 begins_on : (prefix : List Token) (t : Token) (more : List Token) → Begins (marks (prefix ++ t ∷ more)) → Begins (marks prefix ++ mark_of_token t ∷ [])

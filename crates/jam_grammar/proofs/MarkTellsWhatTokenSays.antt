@@ -5,23 +5,23 @@ use Rattle.std.proofs.lemmas.Slice.Eq.{bytes_eq-Decides}
 use Rattle.b2_base.specs.declared.token.Token.{Token}
 use Rattle.b2_base.specs.declared.token.TokenKind.{TokenKind}
 use Rattle.b2_base.specs.declared.token.TokenKind.TheVariants as kinds
-use Rattle.jam_grammar.specs.declared.mark.Mark.{Mark}
-use Rattle.jam_grammar.specs.declared.mark.Mark.TheVariants as m
+use Rattle.jam_grammar.specs.declared.mark.TokenMark.{TokenMark}
+use Rattle.jam_grammar.specs.declared.mark.TokenMark.TheVariants as m
 use Rattle.jam_grammar.specs.Marks.{mark_of_word, mark_of_key, word_marks, key_marks, mark_in, mark_by_kind, mark_of_token, is_word, is_name}
 use Rattle.jam_grammar.specs.Alike.{said_of, word_said, key_said, body_said, mark_said}
 
 -- the marks whose tokens say one text
-abbrev pub has_text : Mark → Bool
+abbrev pub has_text : TokenMark → Bool
 has_text m.Plain = false
 has_text m.Body = false
 has_text m.Unknown = false
 has_text _ = true
 
 -- what a text says by its mark
-abbrev SaidBy : TokenKind → List ℕ → Mark → Type 0
+abbrev SaidBy : TokenKind → List ℕ → TokenMark → Type 0
 SaidBy kind text mark = has_text mark ≡ true → record { kind = kind; text = text } ≡ mark_said mark
 
-pick : (kind : TokenKind) (text sign : List ℕ) (mark next : Mark) → record { kind = kind; text = sign } ≡ mark_said mark → SaidBy kind text next → SaidBy kind text (if bytes_eq text sign then mark else next)
+pick : (kind : TokenKind) (text sign : List ℕ) (mark next : TokenMark) → record { kind = kind; text = sign } ≡ mark_said mark → SaidBy kind text next → SaidBy kind text (if bytes_eq text sign then mark else next)
 pick kind text sign mark next is rest = by (bytes_eq text sign) refl
   where
     by : (b : Bool) → bytes_eq text sign ≡ b → SaidBy kind text (if b then mark else next)
@@ -29,7 +29,7 @@ pick kind text sign mark next is rest = by (bytes_eq text sign) refl
     by false e = rest
 
 -- the marks of keys
-abbrev IsKeyMark : Mark → Type 0
+abbrev IsKeyMark : TokenMark → Type 0
 IsKeyMark m.Plain = ⊥
 IsKeyMark m.Query = ⊥
 IsKeyMark m.Star = ⊥
@@ -41,7 +41,7 @@ IsKeyMark m.Body = ⊥
 IsKeyMark _ = Unit {0}
 
 -- each row has a key's mark, whose tokens say the row's text
-abbrev AreKeys : List (List ℕ × Mark) → Type 0
+abbrev AreKeys : List (List ℕ × TokenMark) → Type 0
 AreKeys [] = Unit {0}
 AreKeys (row ∷ rows) = ((key_said row.0 ≡ mark_said row.1) × IsKeyMark row.1) × AreKeys rows
 
@@ -109,11 +109,11 @@ are_keys = (
 )
 
 -- the first row with a text says it, where other marks than those of the rows have no text
-abbrev AllSay : TokenKind → List (List ℕ × Mark) → Type 0
+abbrev AllSay : TokenKind → List (List ℕ × TokenMark) → Type 0
 AllSay kind [] = Unit {0}
 AllSay kind (row ∷ rows) = (record { kind = kind; text = row.0 } ≡ mark_said row.1) × AllSay kind rows
 
-rows_say : (kind : TokenKind) (rows : List (List ℕ × Mark)) (other : Mark) (text : List ℕ) → has_text other ≡ false → AllSay kind rows → SaidBy kind text (mark_in rows other text)
+rows_say : (kind : TokenKind) (rows : List (List ℕ × TokenMark)) (other : TokenMark) (text : List ℕ) → has_text other ≡ false → AllSay kind rows → SaidBy kind text (mark_in rows other text)
 rows_say kind [] other text none all = λ h. cc
 rows_say kind (row ∷ rows) other text none all = pick kind text row.0 row.1 (mark_in rows other text) all.0 (rows_say kind rows other text none all.1)
 
@@ -124,7 +124,7 @@ word_says : (text : List ℕ) → SaidBy kinds.Word text (mark_of_word text)
 unfolding mark_of_word
 word_says text = rows_say kinds.Word word_marks m.Plain text refl words_say
 
-keys_say : (rows : List (List ℕ × Mark)) → AreKeys rows → AllSay kinds.Key rows
+keys_say : (rows : List (List ℕ × TokenMark)) → AreKeys rows → AllSay kinds.Key rows
 keys_say [] are = tt
 keys_say (row ∷ rows) are = (are.0.0, keys_say rows are.1)
 
@@ -138,32 +138,32 @@ by_kind kinds.Word text = word_says text
 by_kind kinds.Key text = key_says text
 by_kind kinds.Body text = λ h. cc
 
-pub token_says : (token : Token) (mark : Mark) → mark_of_token token ≡ mark → has_text mark ≡ true → said_of token ≡ mark_said mark
+pub token_says : (token : Token) (mark : TokenMark) → mark_of_token token ≡ mark → has_text mark ≡ true → said_of token ≡ mark_said mark
 unfolding mark_of_token
 token_says token mark e h = by_kind token.kind token.text (subst (λ x. has_text x ≡ true) (sym e) h) ∙ ap mark_said e
 
 -- the marks of words and of keys
-choose : (P : Mark → Type 0) (b : Bool) (x y : Mark) → P x → P y → P (if b then x else y)
+choose : (P : TokenMark → Type 0) (b : Bool) (x y : TokenMark) → P x → P y → P (if b then x else y)
 choose P true x y p q = p
 choose P false x y p q = q
 
 -- the mark of a row, or the other, has what each of them has
-abbrev AllHave : (Mark → Type 0) → List (List ℕ × Mark) → Type 0
+abbrev AllHave : (TokenMark → Type 0) → List (List ℕ × TokenMark) → Type 0
 AllHave P [] = Unit {0}
 AllHave P (row ∷ rows) = P row.1 × AllHave P rows
 
-rows_have : (P : Mark → Type 0) (rows : List (List ℕ × Mark)) (other : Mark) (text : List ℕ) → P other → AllHave P rows → P (mark_in rows other text)
+rows_have : (P : TokenMark → Type 0) (rows : List (List ℕ × TokenMark)) (other : TokenMark) (text : List ℕ) → P other → AllHave P rows → P (mark_in rows other text)
 rows_have P [] other text p all = p
 rows_have P (row ∷ rows) other text p all = choose P (bytes_eq text row.0) row.1 (mark_in rows other text) all.0 (rows_have P rows other text p all.1)
 
-abbrev IsWordMark : Mark → Type 0
+abbrev IsWordMark : TokenMark → Type 0
 IsWordMark mark = is_word mark ≡ true
 
 word_mark : (text : List ℕ) → IsWordMark (mark_of_word text)
 unfolding mark_of_word
 word_mark text = rows_have IsWordMark word_marks m.Plain text refl (refl, (refl, (refl, (refl, (refl, (refl, tt))))))
 
-keys_have : (rows : List (List ℕ × Mark)) → AreKeys rows → AllHave IsKeyMark rows
+keys_have : (rows : List (List ℕ × TokenMark)) → AreKeys rows → AllHave IsKeyMark rows
 keys_have [] are = tt
 keys_have (row ∷ rows) are = (are.0.1, keys_have rows are.1)
 
@@ -171,7 +171,7 @@ key_mark : (text : List ℕ) → IsKeyMark (mark_of_key text)
 unfolding mark_of_key
 key_mark text = rows_have IsKeyMark key_marks m.Unknown text tt (keys_have key_marks are_keys)
 
-no_key_word : (mark : Mark) → IsKeyMark mark → is_word mark ≡ true → ⊥
+no_key_word : (mark : TokenMark) → IsKeyMark mark → is_word mark ≡ true → ⊥
 no_key_word m.Plain k h = k
 no_key_word m.Query k h = k
 no_key_word m.Star k h = k
@@ -181,7 +181,7 @@ no_key_word m.Existing k h = k
 no_key_word m.Quietly k h = k
 no_key_word _ k h = cc
 
-no_key_body : (mark : Mark) → IsKeyMark mark → mark ≡ m.Body → ⊥
+no_key_body : (mark : TokenMark) → IsKeyMark mark → mark ≡ m.Body → ⊥
 no_key_body mark k h = subst IsKeyMark h k
 
 pub word_is : (token : Token) → is_word (mark_of_token token) ≡ true → said_of token ≡ word_said token.text
@@ -197,7 +197,7 @@ pub body_is : (token : Token) → mark_of_token token ≡ m.Body → said_of tok
 unfolding mark_of_token
 body_is token h = by token.kind refl h
   where
-    no_word_body : (mark : Mark) → is_word mark ≡ true → mark ≡ m.Body → ⊥
+    no_word_body : (mark : TokenMark) → is_word mark ≡ true → mark ≡ m.Body → ⊥
     no_word_body mark w e = let f : false ≡ true = ap is_word (sym e) ∙ w in cc
 
     by : (kind : TokenKind) → token.kind ≡ kind → mark_by_kind kind token.text ≡ m.Body → said_of token ≡ body_said token.text
@@ -211,7 +211,7 @@ unfolding mark_of_token
 same_said a b e = ap (λ x. mark_by_kind x.kind x.text) e
 
 -- what is said settles the mark of a text of this kind
-pub said_is : (t : Token) (mark : Mark) → said_of t ≡ mark_said mark → mark_by_kind (mark_said mark).kind (mark_said mark).text ≡ mark → mark_of_token t ≡ mark
+pub said_is : (t : Token) (mark : TokenMark) → said_of t ≡ mark_said mark → mark_by_kind (mark_said mark).kind (mark_said mark).text ≡ mark → mark_of_token t ≡ mark
 unfolding mark_of_token
 said_is t mark e h = ap (λ x. mark_by_kind x.kind x.text) e ∙ h
 
@@ -228,7 +228,7 @@ unfolding mark_of_word
 is_quietly t e = said_is t m.Quietly e refl
 
 -- names are words
-pub name_is_word : (mark : Mark) → is_name mark ≡ true → is_word mark ≡ true
+pub name_is_word : (mark : TokenMark) → is_name mark ≡ true → is_word mark ≡ true
 name_is_word m.Plain h = refl
 name_is_word m.Together h = refl
 name_is_word m.Existing h = refl

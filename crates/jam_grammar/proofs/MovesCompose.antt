@@ -1,6 +1,6 @@
 -- What a mark does to several parts, one after another.
 use Rattle.std.proofs.Common.{◌≡◌, ℕ, ◌+◌, List, [], ◌∷◌, ◌++◌, Some, None, nat_le, if◌then◌else◌, refl, sym, ap, ◌∙◌, arith, append_assoc}
-use Rattle.jam_grammar.specs.declared.mark.Mark.{Mark}
+use Rattle.jam_grammar.specs.declared.mark.TokenMark.{TokenMark}
 use Rattle.jam_grammar.specs.Grammar.{Part, opens}
 use Rattle.jam_grammar.specs.Machine.{Move, Take, Room, Skip, Refuse, move, by_move, feed}
 
@@ -16,12 +16,12 @@ followed Skip more next = next
 followed Refuse more next = Refuse
 
 -- what a mark does to parts
-abbrev pub lead : List Part → Mark → Move
+abbrev pub lead : List Part → TokenMark → Move
 lead [] mark = Skip
 lead (part ∷ parts) mark = followed (move part mark) parts (lead parts mark)
 
 -- and so to others after them
-pub feed_lead : (parts more : List Part) (mark : Mark) → feed (parts ++ more) mark ≡ by_move (lead parts mark) more (feed more) mark
+pub feed_lead : (parts more : List Part) (mark : TokenMark) → feed (parts ++ more) mark ≡ by_move (lead parts mark) more (feed more) mark
 feed_lead [] more mark = refl
 feed_lead (part ∷ parts) more mark = by (feed_lead parts more mark) (move part mark)
   where

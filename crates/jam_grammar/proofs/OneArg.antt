@@ -1,7 +1,7 @@
 -- Tokens spell one argument at most, and one list of lists where what follows is no part of it.
 use Rattle.std.proofs.Common.{◌≡◌, List, [], ◌∷◌, ◌++◌, true, false, Some, refl, sym, ap, ◌∙◌, subst}
 use Rattle.b2_base.specs.declared.token.Token.{Token}
-use Rattle.jam_grammar.specs.declared.mark.Mark.TheVariants as m
+use Rattle.jam_grammar.specs.declared.mark.TokenMark.TheVariants as m
 use Rattle.jam_grammar.specs.Trees.{ArgTree, Word, Bracket, InnerTree, CallOf, OnInner, OnReturn, ArgTrees, NoArgs, ArgAnd, ListTrees, NoLists, ListAnd}
 use Rattle.jam_grammar.specs.Spelling.{Sym, Key, Spells, spell_arg, spell_inner, spell_args, spell_lists, spell_further}
 use Rattle.jam_grammar.proofs.PartsCompose.{spells_split}

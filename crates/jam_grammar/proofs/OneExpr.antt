@@ -1,8 +1,8 @@
 -- Tokens spell one condition at most where what follows is no part of it.
 use Rattle.std.proofs.Common.{◌≡◌, ◌⊎◌, inl, inr, List, [], ◌∷◌, Bool, true, false, Option, Some, refl, sym, ap, ◌∙◌}
 use Rattle.b2_base.specs.declared.token.Token.{Token}
-use Rattle.jam_grammar.specs.declared.mark.Mark.{Mark}
-use Rattle.jam_grammar.specs.declared.mark.Mark.TheVariants as m
+use Rattle.jam_grammar.specs.declared.mark.TokenMark.{TokenMark}
+use Rattle.jam_grammar.specs.declared.mark.TokenMark.TheVariants as m
 use Rattle.jam_grammar.specs.Trees.{ArgTree, ArgTrees, ExprTree, Or, And, Not, Group, Bare, Equal, Differ, Within, ExprTrees, NoExprs, ExprAnd}
 use Rattle.jam_grammar.specs.Spelling.{Key, Spells, Level, Anywhere, WithinOr, WithinAnd, spell_arg, spell_args, spell_expr, spell_pair, spell_second, spell_joined}
 use Rattle.jam_grammar.proofs.PartsCompose.{spells_split}
@@ -10,12 +10,12 @@ use Rattle.jam_grammar.proofs.FirstSymbolTellsFirstToken.{first_mark, tail, key_
 use Rattle.jam_grammar.proofs.OneArg.{arg_first, arg_then_first, arg_one, args_one, moved}
 
 -- with what a condition goes on where it stands
-abbrev pub level_at : Level → Mark → Bool
+abbrev pub level_at : Level → TokenMark → Bool
 level_at Anywhere = begins_or
 level_at WithinOr = begins_and
 level_at WithinAnd = begins_compared
 
-level_compared : (level : Level) (o : Option Mark) → at_first (level_at level) o ≡ false → at_first begins_compared o ≡ false
+level_compared : (level : Level) (o : Option TokenMark) → at_first (level_at level) o ≡ false → at_first begins_compared o ≡ false
 level_compared Anywhere o h = no_and_no_compared o (no_or_no_and o h)
 level_compared WithinOr o h = no_and_no_compared o h
 level_compared WithinAnd o h = h
@@ -174,11 +174,11 @@ record First (level : Level) (b : ExprTree) (ts v : List Token) : Type 0 where
   spelled : Spells ts (spell_expr WithinAnd one) rest
   how : ((one ≡ b) × (rest ≡ v)) ⊎ ((at_first (level_at level) (first_mark rest) ≡ true) × (at_first begins_compared (first_mark rest) ≡ false))
 
-second_first : (level : Level) (mark : Mark) (xs : ExprTrees) (ts u : List Token) → Spells ts (spell_second level mark xs) u → first_mark ts ≡ Some mark
+second_first : (level : Level) (mark : TokenMark) (xs : ExprTrees) (ts u : List Token) → Spells ts (spell_second level mark xs) u → first_mark ts ≡ Some mark
 second_first level mark NoExprs ts u s = absurd (never_spelled [] ts u s)
 second_first level mark (ExprAnd x xs) ts u s = key_first mark _ ts u s
 
-widen : (inner level : Level) (mark : Mark) (x b : ExprTree) (ts mid v : List Token) → level_at level mark ≡ true → begins_compared mark ≡ false → ((o : Option Mark) → at_first (level_at inner) o ≡ true → at_first (level_at level) o ≡ true) → first_mark mid ≡ Some mark → First inner x ts mid → First level b ts v
+widen : (inner level : Level) (mark : TokenMark) (x b : ExprTree) (ts mid v : List Token) → level_at level mark ≡ true → begins_compared mark ≡ false → ((o : Option TokenMark) → at_first (level_at inner) o ≡ true → at_first (level_at level) o ≡ true) → first_mark mid ≡ Some mark → First inner x ts mid → First level b ts v
 widen inner level mark x b ts mid v goes other wider h f =
     record { one = f.one; is_single = f.is_single; rest = f.rest; spelled = f.spelled; how = inr (by f.how) }
   where
@@ -186,14 +186,14 @@ widen inner level mark x b ts mid v goes other wider h f =
     by (inl e) = (ap (λ y. at_first (level_at level) (first_mark y)) e.1 ∙ ap (at_first (level_at level)) h ∙ goes, ap (λ y. at_first begins_compared (first_mark y)) e.1 ∙ ap (at_first begins_compared) h ∙ other)
     by (inr g) = (wider (first_mark f.rest) g.0, g.1)
 
-compared_is_and : (o : Option Mark) → at_first begins_compared o ≡ true → at_first begins_and o ≡ true
+compared_is_and : (o : Option TokenMark) → at_first begins_compared o ≡ true → at_first begins_and o ≡ true
 compared_is_and o h = by (at_first begins_and o) refl
   where
     by : (b : Bool) → at_first begins_and o ≡ b → at_first begins_and o ≡ true
     by true e = e
     by false e = clash (at_first begins_compared o) h (no_and_no_compared o e)
 
-compared_is_or : (o : Option Mark) → at_first begins_compared o ≡ true → at_first begins_or o ≡ true
+compared_is_or : (o : Option TokenMark) → at_first begins_compared o ≡ true → at_first begins_or o ≡ true
 compared_is_or o h = and_is_or o (compared_is_and o h)
 
 first_single : (level : Level) (b : ExprTree) (ts v : List Token) → Spells ts (spell_expr level b) v → First level b ts v
@@ -260,18 +260,18 @@ first_both level (Differ a c) ts v s = record { one = Differ a c; not_or = refl;
 first_both level (Within a list) ts v s = record { one = Within a list; not_or = refl; rest = v; spelled = s; how = inl (refl, refl) }
 
 -- members after the first
-abbrev Ends : Level → Mark → List Token → Type 0
+abbrev Ends : Level → TokenMark → List Token → Type 0
 Ends level mark u = (at_first (level_at level) (first_mark u) ≡ false) × (first_mark u ≡ Some mark → ⊥)
 
-joined_first : (level : Level) (mark : Mark) → level_at level mark ≡ false → (xs : ExprTrees) (ts u : List Token) → Spells ts (spell_joined level mark xs) u → Ends level mark u → at_first (level_at level) (first_mark ts) ≡ false
+joined_first : (level : Level) (mark : TokenMark) → level_at level mark ≡ false → (xs : ExprTrees) (ts u : List Token) → Spells ts (spell_joined level mark xs) u → Ends level mark u → at_first (level_at level) (first_mark ts) ≡ false
 joined_first level mark h NoExprs ts u s n = ap (λ x. at_first (level_at level) (first_mark x)) s ∙ n.0
 joined_first level mark h (ExprAnd x xs) ts u s n = ap (at_first (level_at level)) (key_first mark _ ts u s) ∙ h
 
-abbrev OnlySecond : Level → Mark → ExprTrees → Type 0
+abbrev OnlySecond : Level → TokenMark → ExprTrees → Type 0
 OnlySecond level mark xs = (ys : ExprTrees) (ts u v : List Token) → Spells ts (spell_second level mark xs) u → Spells ts (spell_second level mark ys) v → Ends level mark u → Ends level mark v → (xs ≡ ys) × (u ≡ v)
 
 -- two lists of members
-pair_vs : (level : Level) (mark : Mark) → level_at level mark ≡ false → (x : ExprTree) (xs : ExprTrees) → Alone level x → OnlySecond level mark xs → (row : ExprTrees) (ts u v : List Token) → Spells ts (spell_pair level mark (ExprAnd x xs)) u → Spells ts (spell_pair level mark row) v → Ends level mark u → Ends level mark v → (ExprAnd x xs ≡ row) × (u ≡ v)
+pair_vs : (level : Level) (mark : TokenMark) → level_at level mark ≡ false → (x : ExprTree) (xs : ExprTrees) → Alone level x → OnlySecond level mark xs → (row : ExprTrees) (ts u v : List Token) → Spells ts (spell_pair level mark (ExprAnd x xs)) u → Spells ts (spell_pair level mark row) v → Ends level mark u → Ends level mark v → (ExprAnd x xs ≡ row) × (u ≡ v)
 pair_vs level mark h x xs alone rest NoExprs ts u v s r n k = absurd (never_spelled [] ts v r)
 pair_vs level mark h x xs alone rest (ExprAnd y ys) ts u v s r n k =
     let q = spells_split ts u (spell_expr level x) (spell_second level mark xs) s in
@@ -286,7 +286,7 @@ or_ends u n = (no_or_no_and (first_mark u) n, λ h. clash (at_first begins_or (f
 and_ends : (u : List Token) → at_first begins_and (first_mark u) ≡ false → Ends WithinAnd m.And u
 and_ends u n = (no_and_no_compared (first_mark u) n, λ h. clash (at_first begins_and (first_mark u)) (ap (at_first begins_and) h) n)
 
-level_and : (level : Level) (o : Option Mark) → at_first (level_at level) o ≡ false → (level ≡ WithinAnd → ⊥) → at_first begins_and o ≡ false
+level_and : (level : Level) (o : Option TokenMark) → at_first (level_at level) o ≡ false → (level ≡ WithinAnd → ⊥) → at_first begins_and o ≡ false
 level_and Anywhere o h other = no_or_no_and o h
 level_and WithinOr o h other = h
 level_and WithinAnd o h other = absurd (other refl)
@@ -357,7 +357,7 @@ mutual
   expr_one level (Differ x y) b ts u v s r n k = single_vs level (Differ x y) (differ_vs x y) b ts u v s (first_single level b ts v r) n k
   expr_one level (Within x y) b ts u v s r n k = single_vs level (Within x y) (within_vs x y) b ts u v s (first_single level b ts v r) n k
 
-  second_one : (level : Level) (mark : Mark) → level_at level mark ≡ false → (xs ys : ExprTrees) (ts u v : List Token) → Spells ts (spell_second level mark xs) u → Spells ts (spell_second level mark ys) v → Ends level mark u → Ends level mark v → (xs ≡ ys) × (u ≡ v)
+  second_one : (level : Level) (mark : TokenMark) → level_at level mark ≡ false → (xs ys : ExprTrees) (ts u v : List Token) → Spells ts (spell_second level mark xs) u → Spells ts (spell_second level mark ys) v → Ends level mark u → Ends level mark v → (xs ≡ ys) × (u ≡ v)
   second_one level mark h NoExprs ys ts u v s r n k = absurd (never_spelled [] ts u s)
   second_one level mark h (ExprAnd x xs) NoExprs ts u v s r n k = absurd (never_spelled [] ts v r)
   second_one level mark h (ExprAnd x xs) (ExprAnd y ys) ts u v s r n k =
@@ -367,7 +367,7 @@ mutual
       let f = joined_one level mark h xs ys q.0 u v q.2 (moved (spell_joined level mark ys) q.0 p.0 v e.1 p.2) n k in
       (cong ExprAnd e.0 f.0, f.1)
 
-  joined_one : (level : Level) (mark : Mark) → level_at level mark ≡ false → (xs ys : ExprTrees) (ts u v : List Token) → Spells ts (spell_joined level mark xs) u → Spells ts (spell_joined level mark ys) v → Ends level mark u → Ends level mark v → (xs ≡ ys) × (u ≡ v)
+  joined_one : (level : Level) (mark : TokenMark) → level_at level mark ≡ false → (xs ys : ExprTrees) (ts u v : List Token) → Spells ts (spell_joined level mark xs) u → Spells ts (spell_joined level mark ys) v → Ends level mark u → Ends level mark v → (xs ≡ ys) × (u ≡ v)
   joined_one level mark h NoExprs NoExprs ts u v s r n k = (refl, sym s ∙ r)
   joined_one level mark h NoExprs (ExprAnd y ys) ts u v s r n k = absurd (n.1 (ap first_mark (sym s) ∙ key_first mark _ ts v r))
   joined_one level mark h (ExprAnd x xs) NoExprs ts u v s r n k = absurd (k.1 (ap first_mark (sym r) ∙ key_first mark _ ts u s))

@@ -1,8 +1,8 @@
 -- Tokens spell one list of statements at most, where what follows is no part of it.
 use Rattle.std.proofs.Common.{◌≡◌, ℕ, List, [], ◌∷◌, ◌++◌, Bool, true, false, Option, Some, None, refl, sym, ap, ◌∙◌}
 use Rattle.b2_base.specs.declared.token.Token.{Token}
-use Rattle.jam_grammar.specs.declared.mark.Mark.{Mark}
-use Rattle.jam_grammar.specs.declared.mark.Mark.TheVariants as m
+use Rattle.jam_grammar.specs.declared.mark.TokenMark.{TokenMark}
+use Rattle.jam_grammar.specs.declared.mark.TokenMark.TheVariants as m
 use Rattle.jam_grammar.specs.declared.tree.Sign.{Sign}
 use Rattle.jam_grammar.specs.declared.tree.Sign.TheVariants as signs
 use Rattle.jam_grammar.specs.Trees.{ArgTrees, NoArgs, ArgAnd, ListTrees, NoLists, ListAnd, FormTree, Braces, Local, Assign, AssignOn, Include, Return, If, For, While, Switch, Module, Rule, Actions, On, Call, OtherTree, Nothing, ElseBraces, ElseIf, StmtTrees, NoStmts, StmtAnd, CaseTrees, NoCases, CaseAnd}
@@ -15,7 +15,7 @@ use Rattle.jam_grammar.proofs.OneParam.{params_one}
 use Rattle.jam_grammar.proofs.OneHeading.{IsNameAt, heading_one}
 
 -- the kinds of statements by their first marks
-abbrev class_of : Mark → Mark
+abbrev class_of : TokenMark → TokenMark
 class_of m.Query = m.Plain
 class_of m.Star = m.Plain
 class_of m.Plus = m.Plain
@@ -25,11 +25,11 @@ class_of m.Quietly = m.Plain
 class_of m.SquareOpen = m.Plain
 class_of mark = mark
 
-abbrev class : Option Mark → Mark
+abbrev class : Option TokenMark → TokenMark
 class None = m.Unknown
 class (Some mark) = class_of mark
 
-arg_class : (o : Option Mark) → at_first begins_arg o ≡ true → class o ≡ m.Plain
+arg_class : (o : Option TokenMark) → at_first begins_arg o ≡ true → class o ≡ m.Plain
 arg_class None h = cc
 arg_class (Some m.Plain) h = refl
 arg_class (Some m.Query) h = refl
@@ -41,7 +41,7 @@ arg_class (Some m.Quietly) h = refl
 arg_class (Some m.SquareOpen) h = refl
 arg_class (Some _) h = cc
 
-abbrev form_class : FormTree → Mark
+abbrev form_class : FormTree → TokenMark
 form_class (Braces block) = m.BraceOpen
 form_class (Local names value) = m.Local
 form_class (Include names) = m.Include
@@ -79,7 +79,7 @@ form_then_first : (f : FormTree) (syms : List Sym) (ts u : List Token) → Spell
 form_then_first f syms ts u s = let q = spells_split ts u (spell_form f) syms s in form_first f ts q.0 q.1
 
 -- how statements and cases go on
-abbrev goes_by : Mark → Bool
+abbrev goes_by : TokenMark → Bool
 goes_by m.Plain = true
 goes_by m.BraceOpen = true
 goes_by m.Local = true
@@ -96,14 +96,14 @@ goes_by m.On = true
 goes_by m.Else = true
 goes_by _ = false
 
-abbrev goes_stmt : Mark → Bool
+abbrev goes_stmt : TokenMark → Bool
 goes_stmt mark = goes_by (class_of mark)
 
-abbrev goes_case : Mark → Bool
+abbrev goes_case : TokenMark → Bool
 goes_case m.Case = true
 goes_case mark = goes_stmt mark
 
-goes_class : (o : Option Mark) → goes_by (class o) ≡ true → at_first goes_stmt o ≡ true
+goes_class : (o : Option TokenMark) → goes_by (class o) ≡ true → at_first goes_stmt o ≡ true
 goes_class None h = cc
 goes_class (Some mark) h = h
 
@@ -141,7 +141,7 @@ form_no_else (Assign target sign value) h = cc
 form_no_else (AssignOn target on sign value) h = cc
 form_no_else (Call head lists) h = cc
 
-no_case_no_stmt : (o : Option Mark) → at_first goes_case o ≡ false → at_first goes_stmt o ≡ false
+no_case_no_stmt : (o : Option TokenMark) → at_first goes_case o ≡ false → at_first goes_stmt o ≡ false
 no_case_no_stmt None h = refl
 no_case_no_stmt (Some m.Case) h = refl
 no_case_no_stmt (Some mark) h = h
@@ -189,17 +189,17 @@ braced_first : (syms more : List Sym) (ts u : List Token) → Spells ts (braced 
 braced_first syms more ts u s = key_first m.BraceOpen _ ts u s
 
 -- a value after its sign
-abbrev SetSame : Mark → Mark → ArgTrees → ArgTrees → List Token → List Token → Type 0
+abbrev SetSame : TokenMark → TokenMark → ArgTrees → ArgTrees → List Token → List Token → Type 0
 SetSame mark other xs ys u v = (mark ≡ other) × (xs ≡ ys) × (u ≡ v)
 
-set_one : (mark other : Mark) (xs ys : ArgTrees) (ts u v : List Token) → Spells ts (set_syms mark (spell_args xs)) u → Spells ts (set_syms other (spell_args ys)) v → SetSame mark other xs ys u v
+set_one : (mark other : TokenMark) (xs ys : ArgTrees) (ts u v : List Token) → Spells ts (set_syms mark (spell_args xs)) u → Spells ts (set_syms other (spell_args ys)) v → SetSame mark other xs ys u v
 set_one mark other xs ys ts u v s r =
     let q = spells_split (tail ts) u (spell_args xs) (Key m.Semicolon ∷ []) (key_tail mark _ ts u s) in
     let p = spells_split (tail ts) v (spell_args ys) (Key m.Semicolon ∷ []) (key_tail other _ ts v r) in
     let e = args_one xs ys (tail ts) q.0 p.0 q.1 p.1 (ap (at_first begins_arg) (key_first m.Semicolon [] q.0 u q.2)) (ap (at_first begins_arg) (key_first m.Semicolon [] p.0 v p.2)) in
     (same_first (first_mark ts) mark other (key_first mark _ ts u s) (key_first other _ ts v r), e.0, sym (key_tail m.Semicolon [] q.0 u q.2) ∙ ap tail e.1 ∙ key_tail m.Semicolon [] p.0 v p.2)
 
-set_first : (mark : Mark) (syms : List Sym) (ts u : List Token) → Spells ts (set_syms mark syms) u → first_mark ts ≡ Some mark
+set_first : (mark : TokenMark) (syms : List Sym) (ts u : List Token) → Spells ts (set_syms mark syms) u → first_mark ts ≡ Some mark
 set_first mark syms ts u s = key_first mark _ ts u s
 
 sign_one : (a b : Sign) → sign_mark a ≡ sign_mark b → a ≡ b
@@ -234,11 +234,11 @@ sign_no_arg signs.Add = refl
 sign_no_arg signs.Fill = refl
 
 -- lists and a semicolon begin with neither a sign nor `on`
-abbrev begins_call : Mark → Bool
+abbrev begins_call : TokenMark → Bool
 begins_call m.Semicolon = true
 begins_call mark = begins_list mark
 
-args_then_list : (o : Option Mark) → at_first begins_arg o ≡ true → at_first begins_call o ≡ true
+args_then_list : (o : Option TokenMark) → at_first begins_arg o ≡ true → at_first begins_call o ≡ true
 args_then_list None h = h
 args_then_list (Some m.Plain) h = refl
 args_then_list (Some m.Query) h = refl

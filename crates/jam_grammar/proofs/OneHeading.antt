@@ -1,7 +1,7 @@
 -- The modifiers and the name of actions are told by the brace behind them.
 use Rattle.std.proofs.Common.{◌≡◌, List, [], ◌∷◌, Bool, true, false, Some, refl, sym, ap, ◌∙◌}
 use Rattle.b2_base.specs.declared.token.Token.{Token}
-use Rattle.jam_grammar.specs.declared.mark.Mark.TheVariants as m
+use Rattle.jam_grammar.specs.declared.mark.TokenMark.TheVariants as m
 use Rattle.jam_grammar.specs.Spelling.{Switches, none, together, existing, quietly}
 use Rattle.jam_grammar.proofs.FirstSymbolTellsFirstToken.{first_mark, tail, word_at}
 

@@ -3,8 +3,8 @@ use Rattle.std.proofs.Common.{◌≡◌, ℕ, ◌==◌, ◌&&◌, List, [], ◌�
 use Rattle.std.specs.Str.{bytes_eq}
 use Rattle.std.proofs.lemmas.Slice.Eq.{bytes_eq-Decides}
 use Rattle.b2_base.specs.declared.token.Token.{Token}
-use Rattle.jam_grammar.specs.declared.mark.Mark.{Mark}
-use Rattle.jam_grammar.specs.declared.mark.Mark.TheVariants as m
+use Rattle.jam_grammar.specs.declared.mark.TokenMark.{TokenMark}
+use Rattle.jam_grammar.specs.declared.mark.TokenMark.TheVariants as m
 use Rattle.jam_grammar.specs.declared.tree.Param.{Param}
 use Rattle.jam_grammar.specs.Spelling.{Sym, Key, Never, Spells, mark_syms, param_syms, no_mark, takes_all, plist_syms, further_params, params_syms}
 use Rattle.jam_grammar.proofs.PartsCompose.{spells_split}
@@ -12,20 +12,20 @@ use Rattle.jam_grammar.proofs.OneArg.{moved}
 use Rattle.jam_grammar.proofs.FirstSymbolTellsFirstToken.{first_mark, tail, key_first, key_tail, name_at, named_first, named_text, named_tail, never_spelled, clash, same_first, at_first, cong}
 
 -- the marks of parameters, and how a list of them goes on
-abbrev pub marks_param : Mark → Bool
+abbrev pub marks_param : TokenMark → Bool
 marks_param m.Query = true
 marks_param m.Star = true
 marks_param m.Plus = true
 marks_param _ = false
 
-abbrev pub begins_param : Mark → Bool
+abbrev pub begins_param : TokenMark → Bool
 begins_param m.Plain = true
 begins_param m.Together = true
 begins_param m.Existing = true
 begins_param m.Quietly = true
 begins_param mark = marks_param mark
 
-name_no_mark : (o : Option Mark) → name_at o ≡ true → at_first marks_param o ≡ false
+name_no_mark : (o : Option TokenMark) → name_at o ≡ true → at_first marks_param o ≡ false
 name_no_mark None h = refl
 name_no_mark (Some m.Plain) h = refl
 name_no_mark (Some m.Together) h = refl
@@ -33,7 +33,7 @@ name_no_mark (Some m.Existing) h = refl
 name_no_mark (Some m.Quietly) h = refl
 name_no_mark (Some _) h = cc
 
-name_begins : (o : Option Mark) → name_at o ≡ true → at_first begins_param o ≡ true
+name_begins : (o : Option TokenMark) → name_at o ≡ true → at_first begins_param o ≡ true
 name_begins None h = h
 name_begins (Some m.Plain) h = refl
 name_begins (Some m.Together) h = refl
@@ -41,7 +41,7 @@ name_begins (Some m.Existing) h = refl
 name_begins (Some m.Quietly) h = refl
 name_begins (Some _) h = cc
 
-abbrev char_at : Option Mark → ℕ
+abbrev char_at : Option TokenMark → ℕ
 char_at (Some m.Query) = 63
 char_at (Some m.Star) = 42
 char_at (Some m.Plus) = 43
@@ -55,7 +55,7 @@ record MarkRead (c : ℕ) (rest : List Sym) (ts u : List Token) : Type 0 where
 mark_read : (c : ℕ) (rest : List Sym) (ts u : List Token) → Spells ts (mark_syms (Some c) ++ rest) u → MarkRead c rest ts u
 mark_read c rest ts u s = query (c == 63) refl s
   where
-    read : (mark : Mark) → marks_param mark ≡ true → c ≡ char_at (Some mark) → Spells ts (Key mark ∷ rest) u → MarkRead c rest ts u
+    read : (mark : TokenMark) → marks_param mark ≡ true → c ≡ char_at (Some mark) → Spells ts (Key mark ∷ rest) u → MarkRead c rest ts u
     read mark h e s = record { marked = ap (at_first marks_param) (key_first mark rest ts u s) ∙ h; char = e ∙ ap char_at (sym (key_first mark rest ts u s)); after_it = key_tail mark rest ts u s }
 
     plus : (b : Bool) → c == 43 ≡ b → Spells ts ((if b then Key m.Plus ∷ [] else Never ∷ []) ++ rest) u → MarkRead c rest ts u
@@ -74,7 +74,7 @@ mark_read c rest ts u s = query (c == 63) refl s
 names_first : (xs : List Param) (ts u : List Token) → Spells ts (flat_map param_syms xs) u → at_first begins_param (first_mark u) ≡ false → at_first marks_param (first_mark ts) ≡ false
 names_first [] ts u s n = no_mark_at (first_mark ts) (ap (λ x. at_first begins_param (first_mark x)) s ∙ n)
   where
-    no_mark_at : (o : Option Mark) → at_first begins_param o ≡ false → at_first marks_param o ≡ false
+    no_mark_at : (o : Option TokenMark) → at_first begins_param o ≡ false → at_first marks_param o ≡ false
     no_mark_at None h = refl
     no_mark_at (Some m.Plain) h = refl
     no_mark_at (Some m.Together) h = refl
@@ -140,11 +140,11 @@ plist_one xs ys ts u v s r n k = by (takes_all xs) (takes_all ys) refl refl s r
     by false false e f s r = names_one xs ys ts u v s r n k
 
 -- lists after colons
-abbrev pub goes_params : Mark → Bool
+abbrev pub goes_params : TokenMark → Bool
 goes_params m.Colon = true
 goes_params mark = begins_param mark
 
-no_goes : (o : Option Mark) → at_first goes_params o ≡ false → at_first begins_param o ≡ false
+no_goes : (o : Option TokenMark) → at_first goes_params o ≡ false → at_first begins_param o ≡ false
 no_goes None h = refl
 no_goes (Some m.Colon) h = refl
 no_goes (Some mark) h = h

@@ -1,8 +1,8 @@
 -- Tokens that say what a tree asks for read as the tree, up to lines.
 use Rattle.std.proofs.Common.{◌≡◌, List, [], ◌∷◌, ◌++◌, map, Bool, true, false, refl, sym, ap, ◌∙◌, subst, append_assoc}
 use Rattle.b2_base.specs.declared.token.Token.{Token}
-use Rattle.jam_grammar.specs.declared.mark.Mark.{Mark}
-use Rattle.jam_grammar.specs.declared.mark.Mark.TheVariants as m
+use Rattle.jam_grammar.specs.declared.mark.TokenMark.{TokenMark}
+use Rattle.jam_grammar.specs.declared.mark.TokenMark.TheVariants as m
 use Rattle.jam_grammar.specs.Marks.{mark_of_token, same_mark, is_word, is_name}
 use Rattle.jam_grammar.specs.Trees.{ArgTree, Word, Bracket, FormTree, Braces, Local, Assign, AssignOn, Include, Return, If, For, While, Switch, Module, Rule, Actions, On, Call, OtherTree, Nothing, ElseBraces, ElseIf, StmtTrees, NoStmts, StmtAnd, CaseTrees, NoCases, CaseAnd}
 use Rattle.jam_grammar.specs.Spelling.{Sym, Key, Heads, Switches, none, together, existing, quietly, Says, Named, Raw, From, Never, Spells, Anywhere, spell_arg, spell_args, spell_expr, params_syms, local_syms, braced, only, is_if, spell_form, spell_other, spell_stmts, spell_cases}
@@ -88,7 +88,7 @@ fixed_append false (Raw text ∷ a) b h k = fixed_append false a b h k
 fixed_append false (From line ∷ a) b h k = (leads_append a b h.0, fixed_append false a b h.1 k)
 fixed_append false (Never ∷ a) b h k = fixed_append false a b h k
 
-stands_is : (mark : Mark) → stands mark ≡ true → (has_text mark ≡ true) × (same_mark m.Actions mark ≡ false)
+stands_is : (mark : TokenMark) → stands mark ≡ true → (has_text mark ≡ true) × (same_mark m.Actions mark ≡ false)
 stands_is m.Actions h = cc
 stands_is m.Plain h = cc
 stands_is m.Body h = cc
@@ -148,7 +148,7 @@ mutual
   fixed_cases (CaseAnd pattern block rest) = (refl, (refl, fixed_append false (spell_stmts block) _ (fixed_stmts block) (fixed_cases rest)))
 
 -- a word and a body are no `actions`
-word_no_actions : (mark : Mark) → is_word mark ≡ true → same_mark m.Actions mark ≡ false
+word_no_actions : (mark : TokenMark) → is_word mark ≡ true → same_mark m.Actions mark ≡ false
 word_no_actions m.Plain h = refl
 word_no_actions m.Query h = refl
 word_no_actions m.Star h = refl

@@ -3,8 +3,8 @@ use Rattle.std.proofs.Common.{◌≡◌, ℕ, suc, List, [], ◌∷◌, ◌++◌
 use Rattle.std.specs.Str.{bytes_eq}
 use Rattle.std.proofs.lemmas.List.{append-nil}
 use Rattle.b2_base.specs.declared.token.Token.{Token}
-use Rattle.jam_grammar.specs.declared.mark.Mark.{Mark}
-use Rattle.jam_grammar.specs.declared.mark.Mark.TheVariants as m
+use Rattle.jam_grammar.specs.declared.mark.TokenMark.{TokenMark}
+use Rattle.jam_grammar.specs.declared.mark.TokenMark.TheVariants as m
 use Rattle.jam_grammar.specs.declared.tree.Sign.{Sign}
 use Rattle.jam_grammar.specs.declared.tree.Sign.TheVariants as signs
 use Rattle.jam_grammar.specs.declared.tree.Param.{Param}
@@ -61,7 +61,7 @@ compared_syms (WithEqual b) = s.Key m.Equals ∷ spell_arg b
 compared_syms (WithDiffer b) = s.Key m.NotEquals ∷ spell_arg b
 compared_syms (WithIn list) = s.Key m.In ∷ spell_args list
 
-abbrev key_syms : Mark → List ℕ → List Sym
+abbrev key_syms : TokenMark → List ℕ → List Sym
 key_syms m.Body text = Raw text ∷ []
 key_syms mark text = s.Key mark ∷ []
 
@@ -339,10 +339,10 @@ last_word : (t e q : Bool) (k : List Part) (ts : List Token) → Values (LastWor
 last_word t e q k ts w = ((t, e, q, w.0), w.1, (ts, s.none, w.2), w.3)
 
 -- from one modifier less
-abbrev Before : Bool → Bool → Bool → Mark → Bool → Bool → Bool → Type 0
+abbrev Before : Bool → Bool → Bool → TokenMark → Bool → Bool → Bool → Type 0
 Before a b c mark x y z = (token : Token) (ts left : List Token) (t e q : Bool) → mark_of_token token ≡ mark → Switches x y z t e q ts left → Switches a b c t e q (token ∷ ts) left
 
-modifier : (a b c x y z : Bool) (mark : Mark) → is_word mark ≡ true → Before a b c mark x y z → (k : List Part) (ts u : List Token) → Spells ts (s.Key mark ∷ []) u → Values (Headed x y z ∷ k) u → Values (Heading a b c ∷ k) ts
+modifier : (a b c x y z : Bool) (mark : TokenMark) → is_word mark ≡ true → Before a b c mark x y z → (k : List Part) (ts u : List Token) → Spells ts (s.Key mark ∷ []) u → Values (Headed x y z ∷ k) u → Values (Heading a b c ∷ k) ts
 modifier a b c x y z mark is before k [] u h w = absurd h
 modifier a b c x y z mark is before k (t ∷ ts) u h w = by w.0 w.1 w.2 w.3
   where
@@ -432,24 +432,24 @@ fold_line g.differ k ts w = by2 Compared (Key m.NotEquals) OneArg k ts (λ a b. 
 fold_line g.within k ts w = by2 Compared (Key m.In) Args k ts (λ a b. WithIn b) (λ a b. refl) w
 
 -- what can only name actions is a word
-last_is_word : (t e q : Bool) (mark : Mark) → only_names t e q mark ≡ true → is_word mark ≡ true
+last_is_word : (t e q : Bool) (mark : TokenMark) → only_names t e q mark ≡ true → is_word mark ≡ true
 last_is_word t e q m.Together h = refl
 last_is_word t e q m.Existing h = refl
 last_is_word t e q m.Quietly h = refl
 last_is_word t e q mark h = h
 
 -- a token stands for itself
-key_spelled : (mark : Mark) (t : Token) (ts : List Token) → mark_of_token t ≡ mark → Spells (t ∷ ts) (key_syms mark t.text) ts
+key_spelled : (mark : TokenMark) (t : Token) (ts : List Token) → mark_of_token t ≡ mark → Spells (t ∷ ts) (key_syms mark t.text) ts
 key_spelled m.Body t ts e = ((e, refl), refl)
 key_spelled mark t ts e = (e, refl)
 
-head_is : (a b : Mark) (c d : List Mark) → a ∷ c ≡ b ∷ d → a ≡ b
+head_is : (a b : TokenMark) (c d : List TokenMark) → a ∷ c ≡ b ∷ d → a ≡ b
 head_is a b c d e = cc
 
-rest_is : (a b : Mark) (c d : List Mark) → a ∷ c ≡ b ∷ d → c ≡ d
+rest_is : (a b : TokenMark) (c d : List TokenMark) → a ∷ c ≡ b ∷ d → c ≡ d
 rest_is a b c d e = cc
 
-values : {parts : List Part} {ms : List Mark} → Derives parts ms → (ts : List Token) → marks ts ≡ ms → Values parts ts
+values : {parts : List Part} {ms : List TokenMark} → Derives parts ms → (ts : List Token) → marks ts ≡ ms → Values parts ts
 values g.nothing [] e = refl
 values g.nothing (t ∷ ts) e = cc
 values (g.key room d) [] e = cc

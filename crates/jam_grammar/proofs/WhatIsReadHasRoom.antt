@@ -1,7 +1,7 @@
 -- How many more can be open, and how many have to be, for what is still to be read.
 use Rattle.std.proofs.Common.{◌≡◌, ℕ, zero, suc, ◌+◌, ◌-◌, ◌≤◌, List, [], ◌∷◌, ◌++◌, Bool, true, false, Some, None, nat_le, if◌then◌else◌, refl, subst, arith}
-use Rattle.jam_grammar.specs.declared.mark.Mark.{Mark}
-use Rattle.jam_grammar.specs.declared.mark.Mark.TheVariants as m
+use Rattle.jam_grammar.specs.declared.mark.TokenMark.{TokenMark}
+use Rattle.jam_grammar.specs.declared.mark.TokenMark.TheVariants as m
 use Rattle.jam_grammar.specs.Marks.{same_mark, only_names}
 use Rattle.jam_grammar.specs.Grammar.{Part, Key, OneWord, OneName, LastWord, Shut, Stmts, OneStmt, Tail, Assigned, LocalTail, ForTail, RuleTail, OneElse, ElseTail, OneBlock, CaseBlock, Cases, BodyBlock, Heading, Headed, ParamBlock, Params, MoreParams, Names, NameTail, OneArg, OneInner, InnerTail, Args, More, OneExpr, Both, Single, OrTail, AndTail, Compared, closes, opens, Line, Derives}
 use Rattle.jam_grammar.specs.Grammar as grammar
@@ -159,7 +159,7 @@ pub line_needs : {part : Part} {by : List Part} → Line part by → needs part 
 line_needs {part} {by} l = let h = line_gives l in grind (arith, h)
 
 -- what is derived has room
-pub rooms : {parts : List Part} {marks : List Mark} → Derives parts marks → HasRoom parts
+pub rooms : {parts : List Part} {marks : List TokenMark} → Derives parts marks → HasRoom parts
 rooms grammar.nothing = tt
 rooms (grammar.key room d) = (room, rooms d)
 rooms (grammar.word is room d) = (omega (arith, room), rooms d)
@@ -189,7 +189,7 @@ fits_modifier : (b : Bool) (next part : Part) → need (next ∷ []) ≡ 0 → f
 fits_modifier true next part h = grind arith
 fits_modifier false next part h = grind (arith, h)
 
-fits_heading : (t e q : Bool) (part : Part) (mark : Mark) → fits_by (move_heading t e q mark) part ≡ true
+fits_heading : (t e q : Bool) (part : Part) (mark : TokenMark) → fits_by (move_heading t e q mark) part ≡ true
 fits_heading t e q part m.Together = fits_modifier t (Headed true e q) part refl
 fits_heading t e q part m.Existing = fits_modifier e (Headed t true q) part refl
 fits_heading t e q part m.Quietly = fits_modifier q (Headed t e true) part refl
@@ -205,7 +205,7 @@ fits_skip (Room n by) part h = h
 fits_skip Skip part h = refl
 fits_skip Refuse part h = refl
 
-pub fits : (part : Part) (mark : Mark) → fits_by (move part mark) part ≡ true
+pub fits : (part : Part) (mark : TokenMark) → fits_by (move part mark) part ≡ true
 fits (Key want) mark = fits_key (same_mark want mark) (Key want)
 fits (More zero) mark = at_each (λ x. fits_by (move (More zero) x) (More zero)) refl mark
 fits (More (suc n)) mark = at_each (λ x. fits_by (move (More (suc n)) x) (More (suc n))) refl mark
@@ -245,7 +245,7 @@ fits AndTail mark = at_each (λ x. fits_by (move AndTail x) AndTail) refl mark
 fits Compared mark = at_each (λ x. fits_by (move Compared x) Compared) refl mark
 
 -- a mark that is read leaves room
-pub keeps : (parts : List Part) (mark : Mark) (next : List Part) → feed parts mark ≡ Some next → HasRoom parts → HasRoom next
+pub keeps : (parts : List Part) (mark : TokenMark) (next : List Part) → feed parts mark ≡ Some next → HasRoom parts → HasRoom next
 keeps [] mark next h r = cc
 keeps (part ∷ more) mark next h r = by (move part mark) (fits part mark) h (λ again. keeps more mark next again r.1)
   where

@@ -3,8 +3,8 @@ use Rattle.std.specs.Prelude.{ℕ, List, [], ◌∷◌, ◌++◌, Bool, true, fa
 use Rattle.b2_base.specs.declared.token.Token.{Token}
 use Rattle.b2_base.specs.declared.token.TokenKind.{TokenKind}
 use Rattle.b2_base.specs.declared.token.TokenKind.TheVariants as kinds
-use Rattle.jam_grammar.specs.declared.mark.Mark.{Mark}
-use Rattle.jam_grammar.specs.declared.mark.Mark.TheVariants as m
+use Rattle.jam_grammar.specs.declared.mark.TokenMark.{TokenMark}
+use Rattle.jam_grammar.specs.declared.mark.TokenMark.TheVariants as m
 use Rattle.jam_grammar.specs.Grammar.{IsFile}
 use Rattle.jam_grammar.specs.Trees.{FormTree, Braces, Local, Assign, AssignOn, Include, Return, If, For, While, Switch, Module, Rule, Actions, On, Call, OtherTree, Nothing, ElseBraces, ElseIf, StmtTrees, NoStmts, StmtAnd, CaseTrees, NoCases, CaseAnd}
 use Rattle.jam_grammar.specs.Spelling.{Sym, Key, Heads, Says, Named, Raw, From, Never, Spells, spell_stmts}
@@ -28,7 +28,7 @@ abbrev pub body_said : List ℕ → Said
 body_said text = record { kind = kinds.Body; text = text }
 
 -- what tokens of a mark say; words, bodies and unknown keys have no text of their own
-abbrev pub mark_said : Mark → Said
+abbrev pub mark_said : TokenMark → Said
 mark_said m.Query = word_said (codes "?")
 mark_said m.Star = word_said (codes "*")
 mark_said m.Plus = word_said (codes "+")
@@ -67,7 +67,7 @@ mark_said m.While = key_said (codes "while")
 mark_said _ = key_said []
 
 -- what a modifier says that has not stood before and then has
-abbrev pub newly : Bool → Bool → Mark → List Said
+abbrev pub newly : Bool → Bool → TokenMark → List Said
 newly false true mark = mark_said mark ∷ []
 newly _ _ mark = []
 

@@ -1,13 +1,13 @@
 -- The grammar: what may stand for each part of a file, and which marks a file is made of.
 use Rattle.std.specs.Prelude.{ℕ, suc, ◌+◌, ◌≤◌, List, [], ◌∷◌, ◌++◌, Bool, true, false, IsTrue}
-use Rattle.jam_grammar.specs.declared.mark.Mark.{Mark}
-use Rattle.jam_grammar.specs.declared.mark.Mark.TheVariants as m
+use Rattle.jam_grammar.specs.declared.mark.TokenMark.{TokenMark}
+use Rattle.jam_grammar.specs.declared.mark.TokenMark.TheVariants as m
 use Rattle.jam_grammar.specs.Marks.{is_word, is_name, only_names}
 
 -- The parts of a file.
 pub data Part : Type 0 where
   -- a key, or another mark
-  Key : Mark → Part
+  Key : TokenMark → Part
   -- any word, one that may name a parameter, and one that can only name the actions after these modifiers
   OneWord : Part
   OneName : Part
@@ -166,19 +166,19 @@ opens (part ∷ rest) = closes part + opens rest
 
 -- These marks stand for these parts, one after another, and at each of them no more than 64 are open, a mark that opens or
 -- closes one included. A key stands for itself, the parts of words for words, and any other part for what a line gives.
-pub data Derives : List Part → List Mark → Type 0 where
+pub data Derives : List Part → List TokenMark → Type 0 where
   nothing : Derives [] []
-  key : {mark : Mark} {parts : List Part} {marks : List Mark} → opens (Key mark ∷ parts) ≤ 64 → Derives parts marks → Derives (Key mark ∷ parts) (mark ∷ marks)
-  word : {mark : Mark} {parts : List Part} {marks : List Mark} → IsTrue (is_word mark) → opens parts ≤ 64 → Derives parts marks → Derives (OneWord ∷ parts) (mark ∷ marks)
-  name : {mark : Mark} {parts : List Part} {marks : List Mark} → IsTrue (is_name mark) → opens parts ≤ 64 → Derives parts marks → Derives (OneName ∷ parts) (mark ∷ marks)
-  last : {t e q : Bool} {mark : Mark} {parts : List Part} {marks : List Mark} → IsTrue (only_names t e q mark) → opens parts ≤ 64 → Derives parts marks → Derives (LastWord t e q ∷ parts) (mark ∷ marks)
-  shut : {parts : List Part} {marks : List Mark} → opens (Shut ∷ parts) ≤ 64 → Derives parts marks → Derives (Shut ∷ parts) marks
-  by_line : {part : Part} {by parts : List Part} {marks : List Mark} → Line part by → Derives (by ++ parts) marks → Derives (part ∷ parts) marks
+  key : {mark : TokenMark} {parts : List Part} {marks : List TokenMark} → opens (Key mark ∷ parts) ≤ 64 → Derives parts marks → Derives (Key mark ∷ parts) (mark ∷ marks)
+  word : {mark : TokenMark} {parts : List Part} {marks : List TokenMark} → IsTrue (is_word mark) → opens parts ≤ 64 → Derives parts marks → Derives (OneWord ∷ parts) (mark ∷ marks)
+  name : {mark : TokenMark} {parts : List Part} {marks : List TokenMark} → IsTrue (is_name mark) → opens parts ≤ 64 → Derives parts marks → Derives (OneName ∷ parts) (mark ∷ marks)
+  last : {t e q : Bool} {mark : TokenMark} {parts : List Part} {marks : List TokenMark} → IsTrue (only_names t e q mark) → opens parts ≤ 64 → Derives parts marks → Derives (LastWord t e q ∷ parts) (mark ∷ marks)
+  shut : {parts : List Part} {marks : List TokenMark} → opens (Shut ∷ parts) ≤ 64 → Derives parts marks → Derives (Shut ∷ parts) marks
+  by_line : {part : Part} {by parts : List Part} {marks : List TokenMark} → Line part by → Derives (by ++ parts) marks → Derives (part ∷ parts) marks
 
 -- a file
-abbrev pub IsFile : List Mark → Type 0
+abbrev pub IsFile : List TokenMark → Type 0
 IsFile marks = Derives (Stmts ∷ []) marks
 
 -- what a file may begin with
-abbrev pub Begins : List Mark → Type 0
-Begins marks = (more : List Mark) × IsFile (marks ++ more)
+abbrev pub Begins : List TokenMark → Type 0
+Begins marks = (more : List TokenMark) × IsFile (marks ++ more)

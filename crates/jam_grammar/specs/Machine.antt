@@ -1,8 +1,8 @@
 -- Which marks may come next, from what is still to be read.
 use Rattle.std.specs.Prelude.{ℕ, zero, suc, ◌+◌, List, [], ◌∷◌, ◌++◌, Option, Some, None, Bool, true, false, nat_le, if◌then◌else◌}
 use Rattle.b2_base.specs.declared.token.Token.{Token}
-use Rattle.jam_grammar.specs.declared.mark.Mark.{Mark}
-use Rattle.jam_grammar.specs.declared.mark.Mark.TheVariants as m
+use Rattle.jam_grammar.specs.declared.mark.TokenMark.{TokenMark}
+use Rattle.jam_grammar.specs.declared.mark.TokenMark.TheVariants as m
 use Rattle.jam_grammar.specs.Marks.{mark_of_token, is_word, is_name, only_names, same_mark}
 use Rattle.jam_grammar.specs.Grammar.{Part, Key, OneWord, OneName, LastWord, Shut, Stmts, OneStmt, Tail, Assigned, LocalTail, ForTail, RuleTail, OneElse, ElseTail, OneBlock, CaseBlock, Cases, BodyBlock, Heading, Headed, ParamBlock, Params, MoreParams, Names, NameTail, OneArg, OneInner, InnerTail, Args, More, OneExpr, Both, Single, OrTail, AndTail, Compared, opens}
 
@@ -36,7 +36,7 @@ move_key true = Take []
 move_key false = Refuse
 
 -- arguments
-abbrev pub move_arg : Mark → Move
+abbrev pub move_arg : TokenMark → Move
 move_arg m.Plain = Take []
 move_arg m.Query = Take []
 move_arg m.Star = Take []
@@ -47,11 +47,11 @@ move_arg m.Quietly = Take []
 move_arg m.SquareOpen = Room 1 (OneInner ∷ Key m.SquareClose ∷ [])
 move_arg _ = Refuse
 
-abbrev pub move_inner : Mark → Move
+abbrev pub move_inner : TokenMark → Move
 move_inner m.On = Room 1 (OneArg ∷ InnerTail ∷ Shut ∷ [])
 move_inner mark = before (move_arg mark) (Args ∷ More 8 ∷ [])
 
-abbrev pub move_inner_tail : Mark → Move
+abbrev pub move_inner_tail : TokenMark → Move
 move_inner_tail m.Return = Take (Args ∷ [])
 move_inner_tail mark = move_inner mark
 
@@ -59,24 +59,24 @@ abbrev pub move_colon : ℕ → Move
 move_colon zero = Skip
 move_colon (suc n) = Take (Args ∷ More n ∷ [])
 
-abbrev pub move_more : ℕ → Mark → Move
+abbrev pub move_more : ℕ → TokenMark → Move
 move_more n m.Colon = move_colon n
 move_more n _ = Skip
 
 -- blocks
-abbrev pub move_block : Mark → Move
+abbrev pub move_block : TokenMark → Move
 move_block m.BraceOpen = Room 1 (Stmts ∷ Key m.BraceClose ∷ [])
 move_block _ = Refuse
 
-abbrev pub move_case_block : Mark → Move
+abbrev pub move_case_block : TokenMark → Move
 move_case_block m.BraceOpen = Room 1 (Cases ∷ Key m.BraceClose ∷ [])
 move_case_block _ = Refuse
 
-abbrev pub move_cases : Mark → Move
+abbrev pub move_cases : TokenMark → Move
 move_cases m.Case = Take (OneWord ∷ Key m.Colon ∷ Stmts ∷ Cases ∷ [])
 move_cases _ = Skip
 
-abbrev pub move_body_block : Mark → Move
+abbrev pub move_body_block : TokenMark → Move
 move_body_block m.BraceOpen = Room 1 (Key m.Body ∷ Key m.BraceClose ∷ [])
 move_body_block _ = Refuse
 
@@ -89,14 +89,14 @@ abbrev pub move_modifier : Bool → Part → Move
 move_modifier false next = Take (next ∷ [])
 move_modifier true next = Take []
 
-abbrev pub move_heading : Bool → Bool → Bool → Mark → Move
+abbrev pub move_heading : Bool → Bool → Bool → TokenMark → Move
 move_heading t e q m.Together = move_modifier t (Headed true e q)
 move_heading t e q m.Existing = move_modifier e (Headed t true q)
 move_heading t e q m.Quietly = move_modifier q (Headed t e true)
 move_heading t e q mark = move_word (is_word mark) []
 
 -- statements: where what they need can never be opened, their first mark cannot come
-abbrev pub move_stmt : Mark → Move
+abbrev pub move_stmt : TokenMark → Move
 move_stmt m.BraceOpen = move_block m.BraceOpen
 move_stmt m.Local = Take (Args ∷ LocalTail ∷ [])
 move_stmt m.Include = Take (Args ∷ Key m.Semicolon ∷ [])
@@ -111,13 +111,13 @@ move_stmt m.Actions = Room 1 (Heading false false false ∷ BodyBlock ∷ [])
 move_stmt m.On = Room 1 (OneArg ∷ OneStmt ∷ Shut ∷ [])
 move_stmt mark = before (move_arg mark) (Tail ∷ [])
 
-abbrev pub move_assigned : Mark → Move
+abbrev pub move_assigned : TokenMark → Move
 move_assigned m.Equals = Take (Args ∷ Key m.Semicolon ∷ [])
 move_assigned m.PlusEquals = Take (Args ∷ Key m.Semicolon ∷ [])
 move_assigned m.QueryEquals = Take (Args ∷ Key m.Semicolon ∷ [])
 move_assigned _ = Refuse
 
-abbrev pub move_tail : Mark → Move
+abbrev pub move_tail : TokenMark → Move
 move_tail m.Equals = move_assigned m.Equals
 move_tail m.PlusEquals = move_assigned m.PlusEquals
 move_tail m.QueryEquals = move_assigned m.QueryEquals
@@ -126,33 +126,33 @@ move_tail m.Colon = Take (Args ∷ More 7 ∷ Key m.Semicolon ∷ [])
 move_tail m.Semicolon = Take []
 move_tail mark = before (move_arg mark) (Args ∷ More 8 ∷ Key m.Semicolon ∷ [])
 
-abbrev pub move_local_tail : Mark → Move
+abbrev pub move_local_tail : TokenMark → Move
 move_local_tail m.Semicolon = Take []
 move_local_tail m.Equals = Take (Args ∷ Key m.Semicolon ∷ [])
 move_local_tail _ = Refuse
 
-abbrev pub move_for_tail : Mark → Move
+abbrev pub move_for_tail : TokenMark → Move
 move_for_tail m.Local = Take (OneWord ∷ Key m.In ∷ Args ∷ OneBlock ∷ [])
 move_for_tail mark = move_word (is_word mark) (Key m.In ∷ Args ∷ OneBlock ∷ [])
 
-abbrev pub move_else : Mark → Move
+abbrev pub move_else : TokenMark → Move
 move_else m.Else = Room 1 (ElseTail ∷ [])
 move_else _ = Skip
 
-abbrev pub move_else_tail : Mark → Move
+abbrev pub move_else_tail : TokenMark → Move
 move_else_tail m.If = Room 2 (OneExpr ∷ OneBlock ∷ OneElse ∷ Shut ∷ [])
 move_else_tail mark = move_block mark
 
 -- parameters
-abbrev pub move_param_block : Mark → Move
+abbrev pub move_param_block : TokenMark → Move
 move_param_block m.ParenOpen = Room 1 (Params ∷ Key m.ParenClose ∷ [])
 move_param_block _ = Refuse
 
-abbrev pub move_rule_tail : Mark → Move
+abbrev pub move_rule_tail : TokenMark → Move
 move_rule_tail m.ParenOpen = Room 1 (Params ∷ Key m.ParenClose ∷ OneBlock ∷ [])
 move_rule_tail mark = move_block mark
 
-abbrev pub move_params : Mark → Move
+abbrev pub move_params : TokenMark → Move
 move_params m.Star = Take []
 move_params m.Plain = Take (NameTail ∷ MoreParams ∷ [])
 move_params m.Together = Take (NameTail ∷ MoreParams ∷ [])
@@ -161,45 +161,45 @@ move_params m.Quietly = Take (NameTail ∷ MoreParams ∷ [])
 move_params m.Colon = Take (Params ∷ [])
 move_params _ = Skip
 
-abbrev pub move_more_params : Mark → Move
+abbrev pub move_more_params : TokenMark → Move
 move_more_params m.Colon = Take (Params ∷ [])
 move_more_params _ = Skip
 
-abbrev pub move_names : Mark → Move
+abbrev pub move_names : TokenMark → Move
 move_names m.Plain = Take (NameTail ∷ [])
 move_names m.Together = Take (NameTail ∷ [])
 move_names m.Existing = Take (NameTail ∷ [])
 move_names m.Quietly = Take (NameTail ∷ [])
 move_names _ = Skip
 
-abbrev pub move_name_tail : Mark → Move
+abbrev pub move_name_tail : TokenMark → Move
 move_name_tail m.Query = Take (Names ∷ [])
 move_name_tail m.Star = Take []
 move_name_tail m.Plus = Take []
 move_name_tail mark = move_names mark
 
 -- conditions
-abbrev pub move_single : Mark → Move
+abbrev pub move_single : TokenMark → Move
 move_single m.Not = Room 1 (Single ∷ Shut ∷ [])
 move_single m.ParenOpen = Room 1 (OneExpr ∷ Key m.ParenClose ∷ [])
 move_single mark = before (move_arg mark) (Compared ∷ [])
 
-abbrev pub move_or_tail : Mark → Move
+abbrev pub move_or_tail : TokenMark → Move
 move_or_tail m.Or = Take (Both ∷ OrTail ∷ [])
 move_or_tail _ = Skip
 
-abbrev pub move_and_tail : Mark → Move
+abbrev pub move_and_tail : TokenMark → Move
 move_and_tail m.And = Take (Single ∷ AndTail ∷ [])
 move_and_tail _ = Skip
 
-abbrev pub move_compared : Mark → Move
+abbrev pub move_compared : TokenMark → Move
 move_compared m.Equals = Take (OneArg ∷ [])
 move_compared m.NotEquals = Take (OneArg ∷ [])
 move_compared m.In = Take (Args ∷ [])
 move_compared _ = Skip
 
 -- what a mark does to a part
-abbrev pub move : Part → Mark → Move
+abbrev pub move : Part → TokenMark → Move
 move (Key want) mark = move_key (same_mark want mark)
 move OneWord mark = move_word (is_word mark) []
 move OneName mark = move_word (is_name mark) []
@@ -256,14 +256,14 @@ may_be_empty Compared = true
 may_be_empty _ = false
 
 -- what is left to be read by a move, before these
-abbrev pub by_move : Move → List Part → (Mark → Option (List Part)) → Mark → Option (List Part)
+abbrev pub by_move : Move → List Part → (TokenMark → Option (List Part)) → TokenMark → Option (List Part)
 by_move (Take parts) more skipped mark = Some (parts ++ more)
 by_move (Room n parts) more skipped mark = if nat_le (n + opens more) 64 then Some (parts ++ more) else None
 by_move Skip more skipped mark = skipped mark
 by_move Refuse more skipped mark = None
 
 -- what is still to be read after a mark, if it may come
-abbrev pub feed : List Part → Mark → Option (List Part)
+abbrev pub feed : List Part → TokenMark → Option (List Part)
 feed [] mark = None
 feed (part ∷ more) mark = by_move (move part mark) more (feed more) mark
 

@@ -1,7 +1,7 @@
 -- Which tokens read as a tree, and the first fault of those that read as none.
 use Rattle.std.specs.Prelude.{◌≡◌, ℕ, List, [], ◌∷◌, ◌++◌, map}
 use Rattle.b2_base.specs.declared.token.Token.{Token}
-use Rattle.jam_grammar.specs.declared.mark.Mark.{Mark}
+use Rattle.jam_grammar.specs.declared.mark.TokenMark.{TokenMark}
 use Rattle.jam_grammar.specs.declared.tree.Tree.{Tree}
 use Rattle.jam_grammar.specs.Marks.{mark_of_token}
 use Rattle.jam_grammar.specs.Grammar.{IsFile, Begins}
@@ -9,7 +9,7 @@ use Rattle.jam_grammar.specs.Spelling.{Spells, spell_stmts}
 use Rattle.jam_grammar.specs.Trees.{StmtTrees, whole_tree}
 
 -- what the grammar sees of tokens
-abbrev pub marks : List Token → List Mark
+abbrev pub marks : List Token → List TokenMark
 marks tokens = map mark_of_token tokens
 
 -- the tokens are a file, and they spell the tree

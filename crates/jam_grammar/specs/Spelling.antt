@@ -4,8 +4,8 @@ use Rattle.std.specs.declared.vec.Vec.{Vec}
 use Rattle.std.specs.declared.alloc.Global.{Global}
 use Rattle.std.specs.Str.{bytes_eq}
 use Rattle.b2_base.specs.declared.token.Token.{Token}
-use Rattle.jam_grammar.specs.declared.mark.Mark.{Mark}
-use Rattle.jam_grammar.specs.declared.mark.Mark.TheVariants as m
+use Rattle.jam_grammar.specs.declared.mark.TokenMark.{TokenMark}
+use Rattle.jam_grammar.specs.declared.mark.TokenMark.TheVariants as m
 use Rattle.jam_grammar.specs.declared.tree.Sign.{Sign}
 use Rattle.jam_grammar.specs.declared.tree.Sign.TheVariants as signs
 use Rattle.jam_grammar.specs.declared.tree.Param.{Param}
@@ -19,12 +19,13 @@ use Rattle.jam_grammar.specs.declared.tree.Case.{Case}
 use Rattle.jam_grammar.specs.declared.tree.Stmt.{Stmt}
 use Rattle.jam_grammar.specs.declared.tree.Tree.{Tree}
 use Rattle.jam_grammar.specs.Marks.{mark_of_token, is_word, is_name}
-use Rattle.jam_grammar.specs.Trees.{ArgTree, Word, Bracket, InnerTree, CallOf, OnInner, OnReturn, ArgTrees, NoArgs, ArgAnd, ListTrees, NoLists, ListAnd, ExprTree, Or, And, Not, Group, Bare, Equal, Differ, Within, ExprTrees, NoExprs, ExprAnd, FormTree, Braces, Local, Assign, AssignOn, Include, Return, If, For, While, Switch, Module, Rule, Actions, On, Call, OtherTree, Nothing, ElseBraces, ElseIf, StmtTrees, NoStmts, StmtAnd, CaseTrees, NoCases, CaseAnd, arg_tree, inner_tree, args_tree, lists_tree, expr_tree, exprs_tree, form_tree, other_tree, block_tree, stmts_tree, case_before, cases_tree, whole_tree}
+use Rattle.jam_grammar.specs.Trees.{ArgTree, Word, Bracket, InnerTree, CallOf, OnInner, OnReturn, ArgTrees, NoArgs, ArgAnd, ListTrees, NoLists, ListAnd, ExprTree, Or, And, Not, Group, Bare, Equal, Differ, Within, ExprTrees, NoExprs, ExprAnd, FormTree, Braces, Local, Assign, AssignOn, Include, Return}
+use Rattle.jam_grammar.specs.Trees.{If, For, While, Switch, Module, Rule, Actions, On, Call, OtherTree, Nothing, ElseBraces, ElseIf, StmtTrees, NoStmts, StmtAnd, CaseTrees, NoCases, CaseAnd, arg_tree, inner_tree, args_tree, lists_tree, expr_tree, exprs_tree, form_tree, other_tree, block_tree, stmts_tree, case_before, cases_tree, whole_tree}
 
 -- What a tree asks of the tokens, one after another.
 pub data Sym : Type 0 where
   -- a key, or one of the words `?`, `*` and `+`, by its mark
-  Key : Mark → Sym
+  Key : TokenMark → Sym
   -- after the modifiers of actions that the first three tell (`together`, `existing`, `quietly`), words in any order with
   -- which the others have stood
   Heads : Bool → Bool → Bool → Bool → Bool → Bool → Sym
@@ -91,15 +92,15 @@ abbrev mutual
   spell_expr level (Differ a b) = spell_arg a ++ (Key m.NotEquals ∷ spell_arg b)
   spell_expr level (Within a list) = spell_arg a ++ (Key m.In ∷ spell_args list)
 
-  pub spell_pair : Level → Mark → ExprTrees → List Sym
+  pub spell_pair : Level → TokenMark → ExprTrees → List Sym
   spell_pair level mark NoExprs = Never ∷ []
   spell_pair level mark (ExprAnd first rest) = spell_expr level first ++ spell_second level mark rest
 
-  pub spell_second : Level → Mark → ExprTrees → List Sym
+  pub spell_second : Level → TokenMark → ExprTrees → List Sym
   spell_second level mark NoExprs = Never ∷ []
   spell_second level mark (ExprAnd first rest) = Key mark ∷ (spell_expr level first ++ spell_joined level mark rest)
 
-  pub spell_joined : Level → Mark → ExprTrees → List Sym
+  pub spell_joined : Level → TokenMark → ExprTrees → List Sym
   spell_joined level mark NoExprs = []
   spell_joined level mark (ExprAnd first rest) = Key mark ∷ (spell_expr level first ++ spell_joined level mark rest)
 
@@ -137,13 +138,13 @@ params_syms [] = []
 params_syms (first ∷ rest) = Key m.ParenOpen ∷ ((plist_syms first ++ further_params rest) ++ Key m.ParenClose ∷ [])
 
 -- `=`, `+=`, `?=`
-abbrev pub sign_mark : Sign → Mark
+abbrev pub sign_mark : Sign → TokenMark
 sign_mark signs.Set = m.Equals
 sign_mark signs.Add = m.PlusEquals
 sign_mark signs.Fill = m.QueryEquals
 
 -- a value after its sign, up to the end of the statement
-abbrev pub set_syms : Mark → List Sym → List Sym
+abbrev pub set_syms : TokenMark → List Sym → List Sym
 set_syms mark value = Key mark ∷ (value ++ Key m.Semicolon ∷ [])
 
 abbrev pub value_syms : Option ArgTrees → List Sym
@@ -218,10 +219,10 @@ further_syms lists = spell_further (lists_tree lists)
 abbrev pub expr_syms : Level → Expr → List Sym
 expr_syms level e = spell_expr level (expr_tree e)
 
-abbrev pub pair_syms : Level → Mark → List Expr → List Sym
+abbrev pub pair_syms : Level → TokenMark → List Expr → List Sym
 pair_syms level mark members = spell_pair level mark (exprs_tree members)
 
-abbrev pub joined_syms : Level → Mark → List Expr → List Sym
+abbrev pub joined_syms : Level → TokenMark → List Expr → List Sym
 joined_syms level mark members = spell_joined level mark (exprs_tree members)
 
 abbrev pub form_syms : Form → List Sym

@@ -6,7 +6,7 @@ use b2_base::token::{Token, TokenKind};
 
 /// What the grammar sees of a token: which key it is, or that it is a word or a body.
 #[derive(Clone, Copy, PartialEq, Eq)]
-pub enum Mark {
+pub enum TokenMark {
     /// A word other than the three that mark parameters and the three modifiers of actions.
     Plain,
     /// The word `?`.
@@ -88,61 +88,61 @@ pub enum Mark {
 /// What the grammar sees of the token. A word is the same with quotes and without; the texts `?`, `*`, `+`, `together`,
 /// `existing` and `quietly` have marks of their own among the words.
 #[tactic(auto, unfolding(crate::specs::Marks::mark_of_token))]
-pub fn mark_of(token: &Token) -> Mark
+pub fn mark_of(token: &Token) -> TokenMark
     ensures { result ≡ mark_of_token token.now }
 {
     match token.kind {
         TokenKind::Word => mark_of_word(token.text.as_str()),
         TokenKind::Key => mark_of_key(token.text.as_str()),
-        TokenKind::Body => Mark::Body,
+        TokenKind::Body => TokenMark::Body,
     }
 }
 
 /// The words that the grammar knows with their marks: those that mark parameters, then the modifiers of actions.
-static WORDS: [(&str, Mark); 6] = [
-    ("?", Mark::Query),
-    ("*", Mark::Star),
-    ("+", Mark::Plus),
-    ("together", Mark::Together),
-    ("existing", Mark::Existing),
-    ("quietly", Mark::Quietly),
+static WORDS: [(&str, TokenMark); 6] = [
+    ("?", TokenMark::Query),
+    ("*", TokenMark::Star),
+    ("+", TokenMark::Plus),
+    ("together", TokenMark::Together),
+    ("existing", TokenMark::Existing),
+    ("quietly", TokenMark::Quietly),
 ];
 
 /// The keys of the language with their marks: signs, then reserved words in byte order.
-static KEYS: [(&str, Mark); 29] = [
-    (";", Mark::Semicolon),
-    (":", Mark::Colon),
-    ("{", Mark::BraceOpen),
-    ("}", Mark::BraceClose),
-    ("[", Mark::SquareOpen),
-    ("]", Mark::SquareClose),
-    ("(", Mark::ParenOpen),
-    (")", Mark::ParenClose),
-    ("=", Mark::Equals),
-    ("+=", Mark::PlusEquals),
-    ("?=", Mark::QueryEquals),
-    ("!=", Mark::NotEquals),
-    ("!", Mark::Not),
-    ("&&", Mark::And),
-    ("||", Mark::Or),
-    ("actions", Mark::Actions),
-    ("case", Mark::Case),
-    ("else", Mark::Else),
-    ("for", Mark::For),
-    ("if", Mark::If),
-    ("in", Mark::In),
-    ("include", Mark::Include),
-    ("local", Mark::Local),
-    ("module", Mark::Module),
-    ("on", Mark::On),
-    ("return", Mark::Return),
-    ("rule", Mark::Rule),
-    ("switch", Mark::Switch),
-    ("while", Mark::While),
+static KEYS: [(&str, TokenMark); 29] = [
+    (";", TokenMark::Semicolon),
+    (":", TokenMark::Colon),
+    ("{", TokenMark::BraceOpen),
+    ("}", TokenMark::BraceClose),
+    ("[", TokenMark::SquareOpen),
+    ("]", TokenMark::SquareClose),
+    ("(", TokenMark::ParenOpen),
+    (")", TokenMark::ParenClose),
+    ("=", TokenMark::Equals),
+    ("+=", TokenMark::PlusEquals),
+    ("?=", TokenMark::QueryEquals),
+    ("!=", TokenMark::NotEquals),
+    ("!", TokenMark::Not),
+    ("&&", TokenMark::And),
+    ("||", TokenMark::Or),
+    ("actions", TokenMark::Actions),
+    ("case", TokenMark::Case),
+    ("else", TokenMark::Else),
+    ("for", TokenMark::For),
+    ("if", TokenMark::If),
+    ("in", TokenMark::In),
+    ("include", TokenMark::Include),
+    ("local", TokenMark::Local),
+    ("module", TokenMark::Module),
+    ("on", TokenMark::On),
+    ("return", TokenMark::Return),
+    ("rule", TokenMark::Rule),
+    ("switch", TokenMark::Switch),
+    ("while", TokenMark::While),
 ];
 
 /// The mark of the first row with this text, or another where there is none.
-fn mark_in(rows: &[(&str, Mark)], other: Mark, text: &str) -> Mark
+fn mark_in(rows: &[(&str, TokenMark)], other: TokenMark, text: &str) -> TokenMark
     ensures { result ≡ mark_in (map (λ row. (row.0.now, row.1)) rows.now) other text.now }
 {
     match rows {
@@ -159,16 +159,16 @@ fn mark_in(rows: &[(&str, Mark)], other: Mark, text: &str) -> Mark
 
 /// A text that is not among the words that the grammar knows is `Plain`.
 #[tactic(auto, unfolding(crate::specs::Marks::mark_of_word))]
-fn mark_of_word(text: &str) -> Mark
+fn mark_of_word(text: &str) -> TokenMark
     ensures { result ≡ mark_of_word text.now }
 {
-    mark_in(&WORDS, Mark::Plain, text)
+    mark_in(&WORDS, TokenMark::Plain, text)
 }
 
 /// A text that is not among the keys is `Unknown`.
 #[tactic(auto, unfolding(crate::specs::Marks::mark_of_key))]
-fn mark_of_key(text: &str) -> Mark
+fn mark_of_key(text: &str) -> TokenMark
     ensures { result ≡ mark_of_key text.now }
 {
-    mark_in(&KEYS, Mark::Unknown, text)
+    mark_in(&KEYS, TokenMark::Unknown, text)
 }

@@ -11,12 +11,12 @@ use Rattle.jam_grammar.specs.declared.tree.Inner.{Inner}
 use Rattle.jam_grammar.specs.Trees.{InnerTree, Word, Bracket, NoArgs, ArgAnd, arg_tree, inner_tree, args_tree, lists_tree}
 use Rattle.jam_journal.specs.Tables.{Text}
 use Rattle.jam_journal.specs.Scopes.{Value, look}
-use Rattle.jam_eval.specs.Faults.{Spot, depth}
-use Rattle.jam_eval.specs.States.{State}
-use Rattle.jam_eval.specs.Settings.{Setting}
-use Rattle.jam_eval.specs.Outcomes.{Outcome, gives, faults, then_do, expanded, joined}
-use Rattle.jam_eval.specs.Levels.{Levels}
-use Rattle.jam_eval.specs.Args.{arg, args, args_after, lists, call_head, inner}
+use Rattle.jam_meaning.specs.Faults.{Spot, depth}
+use Rattle.jam_meaning.specs.States.{State}
+use Rattle.jam_meaning.specs.Settings.{Setting}
+use Rattle.jam_meaning.specs.Outcomes.{Outcome, gives, faults, then_do, expanded, joined}
+use Rattle.jam_meaning.specs.Levels.{Levels}
+use Rattle.jam_meaning.specs.Args.{arg, args, args_after, lists, call_head, inner}
 use Rattle.jam_effects.specs.declared.at.At.{At}
 use Rattle.jam_effects.specs.declared.fault.EvalFault.{EvalFault}
 use Rattle.jam_effects.specs.Causes.{IsFault}
@@ -25,9 +25,9 @@ use Rattle.jam_effects.specs.Answers.{IsAnswered, named}
 use Rattle.jam_effects.specs.Machines.{Machine, state_of, IsSettingOf}
 use Rattle.jam_effects.specs.Does.{Agrees, Does, Leads}
 use Rattle.jam_effects.specs.Views.{value, values, What}
-use Rattle.jam_interp.specs.Parts.{arg_at, bracket_at, inner_at, args_at, args_rest, lists_at, lists_rest, call_of_at, call_head_at, call_at, deep}
-use Rattle.jam_eval.specs.Kept.{Begins}
-use Rattle.jam_eval.proofs.RecordsOnlyGrow.{then_begins, same_begins, joined_begins, args_after_begins, lists_begins, call_begins, call_head_begins}
+use Rattle.jam_interp.specs.FunctionParts.{arg_at, bracket_at, inner_at, args_at, args_rest, lists_at, lists_rest, call_of_at, call_head_at, call_at, deep}
+use Rattle.jam_meaning.specs.Kept.{Begins}
+use Rattle.jam_meaning.proofs.RecordsOnlyGrow.{then_begins, same_begins, joined_begins, args_after_begins, lists_begins, call_begins, call_head_begins}
 use Rattle.jam_effects.proofs.OrderedCallsDoAsDefined.{err_then, ok_then, led, leads_then, leads_same, value_now, fault_now}
 use Rattle.jam_effects.proofs.AnswersDoAsDefined.{answer_at, answered, expanded_is, head_is, called_or}
 use Rattle.jam_interp.proofs.ExpansionsAreSmall.{expansion_small}

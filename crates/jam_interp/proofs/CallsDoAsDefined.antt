@@ -6,22 +6,22 @@ use Rattle.jam_journal.specs.Tables.{Text}
 use Rattle.jam_journal.specs.Scopes.{Value, Binding, enter_call, leave, bind_each}
 use Rattle.jam_grammar.specs.declared.tree.Stmt.{Stmt}
 use Rattle.jam_grammar.specs.Trees.{stmts_tree}
-use Rattle.jam_eval.specs.Forms.{stmts}
+use Rattle.jam_meaning.specs.Forms.{stmts}
 use Rattle.jam_effects.specs.Framing.{call_entered}
 use Rattle.jam_scope.specs.Rules.{Rule}
 use Rattle.jam_scope.specs.Worlds.{Worlds}
 use Rattle.jam_scope.specs.Changes.{rescoped}
 use Rattle.jam_scope.specs.Lines.{find_rule}
-use Rattle.jam_eval.specs.declared.native_answer.NativeStep.{NativeStep}
-use Rattle.jam_eval.specs.declared.native_answer.NativeStep.TheVariants as steps
-use Rattle.jam_eval.specs.Faults.{depth, turns, arity, unknown_rule, exit}
-use Rattle.jam_eval.specs.States.{State, with_scopes}
-use Rattle.jam_eval.specs.Settings.{Meaning, Setting}
-use Rattle.jam_eval.specs.Outcomes.{Outcome, gives, faults, Flow, then_do, joined, either, close_frame}
-use Rattle.jam_eval.specs.Levels.{Levels}
-use Rattle.jam_eval.specs.Params.{call_binds}
-use Rattle.jam_eval.specs.Conds.{is_true}
-use Rattle.jam_eval.specs.Calls.{kept_if, value_of, transformed, filtered, native_call, acted, bound_call, called}
+use Rattle.jam_meaning.specs.declared.native_answer.NativeStep.{NativeStep}
+use Rattle.jam_meaning.specs.declared.native_answer.NativeStep.TheVariants as steps
+use Rattle.jam_meaning.specs.Faults.{depth, turns, arity, unknown_rule, exit}
+use Rattle.jam_meaning.specs.States.{State, with_scopes}
+use Rattle.jam_meaning.specs.Settings.{Meaning, Setting}
+use Rattle.jam_meaning.specs.Outcomes.{Outcome, gives, faults, Flow, then_do, joined, either, close_frame}
+use Rattle.jam_meaning.specs.Levels.{Levels}
+use Rattle.jam_meaning.specs.Params.{call_binds}
+use Rattle.jam_meaning.specs.Conds.{is_true}
+use Rattle.jam_meaning.specs.RuleCalls.{kept_if, value_of, transformed, filtered, native_call, acted, bound_call, called}
 use Rattle.jam_effects.specs.declared.at.At.{At}
 use Rattle.jam_effects.specs.declared.flow.Flow.{Flow as Way}
 use Rattle.jam_effects.specs.declared.flow.Flow.TheVariants as ways
@@ -30,14 +30,14 @@ use Rattle.jam_effects.specs.declared.fault.EvalFault.TheVariants as fault
 use Rattle.jam_effects.specs.Causes.{IsFault}
 use Rattle.jam_effects.specs.Spots.{spot_of}
 use Rattle.jam_effects.specs.Answers.{IsAnswered}
-use Rattle.jam_effects.specs.Asking.{native_step_at, record_call_at}
+use Rattle.jam_effects.specs.AskedNatives.{native_step_at, record_call_at}
 use Rattle.b2_host.specs.Outside.{Outside}
 use Rattle.jam_effects.specs.declared.turns.Turns.{Turns}
 use Rattle.jam_effects.specs.Machines.{Machine, machine, state_of, IsSettingOf}
 use Rattle.jam_effects.specs.Does.{Agrees, DoesInCall, Does, Leads}
 use Rattle.jam_effects.specs.Views.{value, truth, step, flow_of, IsValueOf}
-use Rattle.jam_interp.specs.Parts.{call_at, call_head_at, applied_at, ruled_at, unruled_at, run_rule_at, stepped_at, transformed_at, filtered_at, transformed_rest, filtered_rest, bracket_call_at, stmts_at, deep, body_at}
-use Rattle.jam_eval.proofs.RecordsOnlyGrow.{then_begins, same_begins, either_begins, joined_begins, value_begins, acted_begins, native_begins, stepped_begins, transformed_begins, filtered_begins}
+use Rattle.jam_interp.specs.FunctionParts.{call_at, call_head_at, applied_at, ruled_at, unruled_at, run_rule_at, stepped_at, transformed_at, filtered_at, transformed_rest, filtered_rest, bracket_call_at, stmts_at, deep, body_at}
+use Rattle.jam_meaning.proofs.RecordsOnlyGrow.{then_begins, same_begins, either_begins, joined_begins, value_begins, acted_begins, native_begins, stepped_begins, transformed_begins, filtered_begins}
 use Rattle.jam_effects.proofs.OrderedCallsDoAsDefined.{err_then, err_then_in, ok_then, led, led_in, led_same, leads_then, leads_same, value_now, fault_now, weaker, in_call_then}
 use Rattle.jam_effects.proofs.OneTurnLessOrFault.{turn_call, turn_faults, turned}
 use Rattle.jam_interp.proofs.OneLevelLessOrFault.{one_less, no_call, no_bracket_call}

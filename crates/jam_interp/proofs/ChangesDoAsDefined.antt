@@ -2,10 +2,10 @@
 use Rattle.std.proofs.Common.{◌≡◌, inl, inr, None, Ok, Err, refl, sym, ap, ◌∙◌, subst, arith}
 use Rattle.b2_host.specs.OutsideLaws.{keeps_same}
 use Rattle.jam_scope.specs.Worlds.{Worlds}
-use Rattle.jam_eval.specs.Faults.{Spot, Cause, expand, refused_in}
-use Rattle.jam_eval.specs.States.{State}
-use Rattle.jam_eval.specs.Settings.{Setting}
-use Rattle.jam_eval.specs.Outcomes.{Outcome, gives, Flow, fault_at}
+use Rattle.jam_meaning.specs.Faults.{Spot, Cause, expand, refused_in}
+use Rattle.jam_meaning.specs.States.{State}
+use Rattle.jam_meaning.specs.Settings.{Setting}
+use Rattle.jam_meaning.specs.Outcomes.{Outcome, gives, Flow, fault_at}
 use Rattle.jam_effects.specs.declared.flow.Flow.TheVariants as ways
 use Rattle.jam_effects.specs.declared.fault.EvalFault.{EvalFault}
 use Rattle.jam_effects.specs.Causes.{IsFault}

@@ -16,9 +16,9 @@ use Rattle.jam_grammar.proofs.TreesAreThoseOfElements.{or_is, and_is, block_is, 
 use Rattle.jam_journal.specs.Scopes.{Value}
 use Rattle.jam_scope.specs.Worlds.{World, Worlds}
 use Rattle.jam_scope.specs.Changes.{changed}
-use Rattle.jam_eval.specs.Settings.{Setting}
-use Rattle.jam_eval.specs.Outcomes.{Flow, gives, goes_on}
-use Rattle.jam_eval.specs.Forms.{other}
+use Rattle.jam_meaning.specs.Settings.{Setting}
+use Rattle.jam_meaning.specs.Outcomes.{Flow, gives, goes_on}
+use Rattle.jam_meaning.specs.Forms.{other}
 use Rattle.jam_effects.specs.declared.at.At.{At}
 use Rattle.jam_effects.specs.declared.flow.Flow.{Flow as Way}
 use Rattle.jam_effects.specs.declared.flow.Flow.TheVariants as ways
@@ -29,7 +29,7 @@ use Rattle.jam_effects.specs.Machines.{Machine, state_of}
 use Rattle.jam_effects.specs.Naming.{SameFrames}
 use Rattle.jam_effects.specs.Does.{Does}
 use Rattle.jam_effects.specs.Views.{value, truth, flow_of, What}
-use Rattle.jam_interp.specs.Parts.{args_at, local_value_at, deep, expr_at, any_of_at, all_of_at, form_at, form_by, other_at, switch_at}
+use Rattle.jam_interp.specs.FunctionParts.{args_at, local_value_at, deep, expr_at, any_of_at, all_of_at, form_at, form_by, other_at, switch_at}
 use Rattle.jam_effects.proofs.OrderedCallsDoAsDefined.{value_now}
 use Rattle.jam_interp.proofs.ChangesDoAsDefined.{puts}
 use Rattle.jam_interp.proofs.ConditionsDoAsDefined.{test_at}

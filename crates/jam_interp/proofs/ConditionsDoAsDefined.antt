@@ -5,11 +5,11 @@ use Rattle.jam_grammar.specs.declared.tree.Expr.{Expr}
 use Rattle.jam_grammar.specs.Trees as tree
 use Rattle.jam_grammar.specs.Trees.{ArgTree, ArgTrees, ExprTree, expr_tree, exprs_tree, arg_tree, args_tree}
 use Rattle.jam_journal.specs.Scopes.{Value}
-use Rattle.jam_eval.specs.States.{State}
-use Rattle.jam_eval.specs.Settings.{Setting}
-use Rattle.jam_eval.specs.Outcomes.{Outcome, gives, faults, then_do, either, expanded}
-use Rattle.jam_eval.specs.Args.{arg, args}
-use Rattle.jam_eval.specs.Conds.{is_true, is_same, is_within, expr, any_of, all_of}
+use Rattle.jam_meaning.specs.States.{State}
+use Rattle.jam_meaning.specs.Settings.{Setting}
+use Rattle.jam_meaning.specs.Outcomes.{Outcome, gives, faults, then_do, either, expanded}
+use Rattle.jam_meaning.specs.Args.{arg, args}
+use Rattle.jam_meaning.specs.Conds.{is_true, is_same, is_within, expr, any_of, all_of}
 use Rattle.jam_effects.specs.declared.at.At.{At}
 use Rattle.jam_effects.specs.declared.fault.EvalFault.{EvalFault}
 use Rattle.jam_effects.specs.Spots.{spot_of}
@@ -17,9 +17,9 @@ use Rattle.jam_effects.specs.Lending.{IsLent, AreLent, IsTruthLent, AreSameLent,
 use Rattle.jam_effects.specs.Machines.{Machine, state_of}
 use Rattle.jam_effects.specs.Does.{Does, Leads}
 use Rattle.jam_effects.specs.Views.{value, truth, What}
-use Rattle.jam_interp.specs.Parts.{arg_at, args_at, expr_at, any_of_at, all_of_at, bare_at, same_at, among_at, deep}
-use Rattle.jam_eval.specs.Kept.{Begins}
-use Rattle.jam_eval.proofs.RecordsOnlyGrow.{then_begins, same_begins, either_begins, any_begins, all_begins}
+use Rattle.jam_interp.specs.FunctionParts.{arg_at, args_at, expr_at, any_of_at, all_of_at, bare_at, same_at, among_at, deep}
+use Rattle.jam_meaning.specs.Kept.{Begins}
+use Rattle.jam_meaning.proofs.RecordsOnlyGrow.{then_begins, same_begins, either_begins, any_begins, all_begins}
 use Rattle.jam_effects.proofs.OrderedCallsDoAsDefined.{err_then, ok_then, led, leads_then, value_now}
 use Rattle.jam_effects.proofs.AnswersDoAsDefined.{answer_at}
 use Rattle.jam_interp.proofs.ArgumentsDoAsDefined.{does_by, one_word}
@@ -39,23 +39,23 @@ module _ {R : Type 0} where
       (value_now truth (λ setting s. gives (make (view v)) s) b answer (λ setting right. ap (λ x. gives x (state_of b)) (sym is)))
 
   -- two answers, one after the other
-  abbrev pub two_of : (Value → Value → Bool) → What R Value → What R Value → What R Bool
-  two_of test left right setting s = then_do (left setting s) (λ a. λ s₁. then_do (right setting s₁) (λ b. λ s₂. gives (test a b) s₂))
+  abbrev pub both_of : (Value → Value → Bool) → What R Value → What R Value → What R Bool
+  both_of test left right setting s = then_do (left setting s) (λ a. λ s₁. then_do (right setting s₁) (λ b. λ s₂. gives (test a b) s₂))
 
-  pub two_first_fails : (test : Value → Value → Bool) (left right : What R Value) (a b : Machine R) (e : EvalFault) → ((setting : Setting R) (later : State R) → Begins setting later (right setting later)) → Does value left a b (Err e) → Does truth (two_of test left right) a b (Err e)
-  two_first_fails test left right a b e more h =
+  pub left_fails : (test : Value → Value → Bool) (left right : What R Value) (a b : Machine R) (e : EvalFault) → ((setting : Setting R) (later : State R) → Begins setting later (right setting later)) → Does value left a b (Err e) → Does truth (both_of test left right) a b (Err e)
+  left_fails test left right a b e more h =
       err_then value truth left (λ setting u s₁. then_do (right setting s₁) (λ v. λ s₂. gives (test u v) s₂)) a b e
       (λ setting u later. then_begins setting _ _ later (more setting later) (λ v last. same_begins setting (test u v) last)) h
 
-  pub two_second_fails : (test : Value → Value → Bool) (left right : What R Value) (a b c : Machine R) (u : Value) (e : EvalFault) → Does value left a b (Ok u) → Does value right b c (Err e) → Does truth (two_of test left right) a c (Err e)
-  two_second_fails test left right a b c u e one two =
-      led truth (two_of test left right) (λ setting s₁. then_do (right setting s₁) (λ v. λ s₂. gives (test u v) s₂)) a b c (Err e)
+  pub right_fails : (test : Value → Value → Bool) (left right : What R Value) (a b c : Machine R) (u : Value) (e : EvalFault) → Does value left a b (Ok u) → Does value right b c (Err e) → Does truth (both_of test left right) a c (Err e)
+  right_fails test left right a b c u e one two =
+      led truth (both_of test left right) (λ setting s₁. then_do (right setting s₁) (λ v. λ s₂. gives (test u v) s₂)) a b c (Err e)
       (ok_then value left (λ setting w s₁. then_do (right setting s₁) (λ v. λ s₂. gives (test w v) s₂)) a b u one)
       (err_then value truth right (λ setting v s₂. gives (test u v) s₂) b c e (λ setting v later. same_begins setting (test u v) later) two)
 
-  pub two_end : (test : Value → Value → Bool) (left right : What R Value) (a b c : Machine R) (u v : Value) (answer : Bool) → answer ≡ test u v → Does value left a b (Ok u) → Does value right b c (Ok v) → Does truth (two_of test left right) a c (Ok answer)
-  two_end test left right a b c u v answer is one two =
-      led truth (two_of test left right) (λ setting s₁. then_do (right setting s₁) (λ w. λ s₂. gives (test u w) s₂)) a b c (Ok answer)
+  pub both_end : (test : Value → Value → Bool) (left right : What R Value) (a b c : Machine R) (u v : Value) (answer : Bool) → answer ≡ test u v → Does value left a b (Ok u) → Does value right b c (Ok v) → Does truth (both_of test left right) a c (Ok answer)
+  both_end test left right a b c u v answer is one two =
+      led truth (both_of test left right) (λ setting s₁. then_do (right setting s₁) (λ w. λ s₂. gives (test u w) s₂)) a b c (Ok answer)
       (ok_then value left (λ setting w s₁. then_do (right setting s₁) (λ x. λ s₂. gives (test w x) s₂)) a b u one)
       (led truth (λ setting s₁. then_do (right setting s₁) (λ w. λ s₂. gives (test u w) s₂)) (λ setting s. gives (test u v) s) b c c (Ok answer)
       (ok_then value right (λ setting w s₂. gives (test u w) s₂) b c v two)
@@ -83,10 +83,10 @@ module _ {R : Type 0} where
   truth_lent a at m holds (list, lends, is) = made_ends value (arg_at a at) is_true m m list holds is (arg_lent a at m list lends)
 
   pub same_lent : (a b : Arg) (at : At) (m : Machine R) (holds : Bool) → AreSameLent m.worlds.now.scopes (arg_tree a) (arg_tree b) holds → Does truth (same_at a b at) m m (Ok holds)
-  same_lent a b at m holds (first, one, (second, two, is)) = two_end is_same (arg_at a at) (arg_at b at) m m m first second holds is (arg_lent a at m first one) (arg_lent b at m second two)
+  same_lent a b at m holds (first, one, (second, two, is)) = both_end is_same (arg_at a at) (arg_at b at) m m m first second holds is (arg_lent a at m first one) (arg_lent b at m second two)
 
   pub within_lent : (a : Arg) (list : List Arg) (at : At) (m : Machine R) (holds : Bool) → AreWithinLent m.worlds.now.scopes (arg_tree a) (args_tree list) holds → Does truth (among_at a list at) m m (Ok holds)
-  within_lent a list at m holds (texts, one, (others, two, is)) = two_end is_within (arg_at a at) (args_at list at) m m m texts others holds is (arg_lent a at m texts one) (args_lent list at m others two)
+  within_lent a list at m holds (texts, one, (others, two, is)) = both_end is_within (arg_at a at) (args_at list at) m m m texts others holds is (arg_lent a at m texts one) (args_lent list at m others two)
 
   -- ---- members of `||`
 

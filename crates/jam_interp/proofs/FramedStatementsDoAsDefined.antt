@@ -13,12 +13,12 @@ use Rattle.jam_journal.specs.Tables.{Text}
 use Rattle.jam_journal.specs.Scopes.{Value, enter, leave, bind_each}
 use Rattle.jam_scope.specs.Worlds.{Worlds}
 use Rattle.jam_scope.specs.Changes.{rescoped, module_in}
-use Rattle.jam_eval.specs.Faults.{turns}
-use Rattle.jam_eval.specs.States.{State, with_scopes}
-use Rattle.jam_eval.specs.Settings.{Setting}
-use Rattle.jam_eval.specs.Outcomes.{gives, Flow, goes_on, then_do, then_go, either, take_turn, in_module, close_frame, on_target}
-use Rattle.jam_eval.specs.Includes.{included}
-use Rattle.jam_eval.specs.Forms.{done, bind_names, local_value, for_loop, for_all, set_own}
+use Rattle.jam_meaning.specs.Faults.{turns}
+use Rattle.jam_meaning.specs.States.{State, with_scopes}
+use Rattle.jam_meaning.specs.Settings.{Setting}
+use Rattle.jam_meaning.specs.Outcomes.{gives, Flow, goes_on, then_do, then_go, either, take_turn, in_module, close_frame, on_target}
+use Rattle.jam_meaning.specs.Includes.{included}
+use Rattle.jam_meaning.specs.Forms.{done, bind_names, local_value, for_loop, for_all, set_own}
 use Rattle.jam_effects.specs.declared.at.At.{At}
 use Rattle.jam_effects.specs.declared.flow.Flow.{Flow as Way}
 use Rattle.jam_effects.specs.declared.flow.Flow.TheVariants as ways
@@ -31,9 +31,9 @@ use Rattle.jam_effects.specs.Naming.{set_all_own_in, IsRefused, IsMade, SameFram
 use Rattle.jam_effects.specs.Machines.{Machine, state_of}
 use Rattle.jam_effects.specs.Does.{Does, Leads}
 use Rattle.jam_effects.specs.Views.{value, truth, flow_of, What}
-use Rattle.jam_interp.specs.Parts.{deep, args_at, arg_at, expr_at, block_at, deeper_at, started_at, local_at, local_value_at, assign_on_at, include_at, included_at, module_at, on_at, for_at, rounds_at, while_at, while_rest}
-use Rattle.jam_eval.specs.Kept.{Begins}
-use Rattle.jam_eval.proofs.RecordsOnlyGrow.{then_begins, same_begins, go_begins, either_begins, turn_begins, module_begins, target_begins, args_begins, local_begins, for_all_begins, set_own_begins, included_begins, level_begins, started_begins, loop_begins, while_begins, expr_begins, block_begins}
+use Rattle.jam_interp.specs.FunctionParts.{deep, args_at, arg_at, expr_at, block_at, deeper_at, started_at, local_at, local_value_at, assign_on_at, include_at, included_at, module_at, on_at, for_at, rounds_at, while_at, while_rest}
+use Rattle.jam_meaning.specs.Kept.{Begins}
+use Rattle.jam_meaning.proofs.RecordsOnlyGrow.{then_begins, same_begins, go_begins, either_begins, turn_begins, module_begins, target_begins, args_begins, local_begins, for_all_begins, set_own_begins, included_begins, level_begins, started_begins, loop_begins, while_begins, expr_begins, block_begins}
 use Rattle.jam_effects.proofs.WhatEachKeepsAllKeep.{stays_then}
 use Rattle.jam_effects.proofs.OrderedCallsDoAsDefined.{err_then, ok_then, err_go, ok_go, ended_go, led, leads_then, leads_same, value_now, out_of_memory}
 use Rattle.jam_effects.proofs.FramesCloseEvenAfterFaults.{in_frame_does, bound_does}

@@ -10,14 +10,14 @@ use Rattle.jam_journal.specs.Tables.{Text}
 use Rattle.jam_journal.specs.Scopes.{leave}
 use Rattle.jam_scope.specs.Worlds.{Worlds}
 use Rattle.jam_scope.specs.Changes.{rescoped, changed, freeze_roots, module_in}
-use Rattle.jam_eval.specs.Faults.{Spot, Cause, include}
-use Rattle.jam_eval.specs.Refused.{TookTurn}
-use Rattle.jam_eval.specs.States.{State}
-use Rattle.jam_eval.specs.Settings.{Setting, Reading, is_missing, is_too_big, has_no_tokens, has_no_tree, is_file, IsReading}
-use Rattle.jam_eval.specs.Outcomes.{Outcome, gives, Flow, goes_on, then_do, either, fault_at, in_frame, in_module}
-use Rattle.jam_eval.specs.Includes.{is_in_roots, read_so, file_ended}
+use Rattle.jam_meaning.specs.Faults.{Spot, Cause, include}
+use Rattle.jam_meaning.specs.Refused.{TookTurn}
+use Rattle.jam_meaning.specs.States.{State}
+use Rattle.jam_meaning.specs.Settings.{Setting, Reading, is_missing, is_too_big, has_no_tokens, has_no_tree, is_file, IsReading}
+use Rattle.jam_meaning.specs.Outcomes.{Outcome, gives, Flow, goes_on, then_do, either, fault_at, in_frame, in_module}
+use Rattle.jam_meaning.specs.Includes.{is_in_roots, read_so, file_ended}
 use Rattle.jam_effects.specs.declared.at.At.{At}
-use Rattle.jam_effects.specs.declared.including.Included.{Included}
+use Rattle.jam_effects.specs.declared.including.IncludedFile.{IncludedFile}
 use Rattle.jam_effects.specs.declared.flow.Flow.{Flow as Way}
 use Rattle.jam_effects.specs.declared.fault.EvalFault.{EvalFault}
 use Rattle.jam_effects.specs.declared.fault.EvalFault.TheVariants as fault
@@ -29,8 +29,8 @@ use Rattle.jam_effects.specs.Naming.{SameFrames}
 use Rattle.jam_effects.specs.Machines.{Machine, folder_of, state_of, IsSettingOf}
 use Rattle.jam_effects.specs.Does.{Stays, Agrees, Does, Leads}
 use Rattle.jam_effects.specs.Views.{flow_of, What, IsFileEnd}
-use Rattle.jam_interp.specs.Parts.{deep, deeper_at, included_at}
-use Rattle.jam_eval.proofs.RecordsOnlyGrow.{then_begins, same_begins, begins_from, file_begins, included_begins}
+use Rattle.jam_interp.specs.FunctionParts.{deep, deeper_at, included_at}
+use Rattle.jam_meaning.proofs.RecordsOnlyGrow.{then_begins, same_begins, begins_from, file_begins, included_begins}
 use Rattle.jam_effects.proofs.OrderedCallsDoAsDefined.{led, fault_agrees}
 use Rattle.jam_effects.proofs.FramesCloseEvenAfterFaults.{in_frame_does}
 use Rattle.jam_interp.proofs.ArgumentsDoAsDefined.{does_by}
@@ -42,7 +42,7 @@ with_disk None folder P path reading e is h = cc
 with_disk (Some disk) folder P path reading e is h = (let same : disk.now ≡ folder = cc in h reading (subst (λ f. IsReading f path reading) (sym same) is))
 
 -- freezing the roots changes no frame
-same_frozen : (before after : Worlds) (result : Result Included EvalFault) → IsFrozen before after result → SameFrames before after
+same_frozen : (before after : Worlds) (result : Result IncludedFile EvalFault) → IsFrozen before after result → SameFrames before after
 same_frozen before after (Ok file) is = frozen before after is
   where
     frozen : (a b : Worlds) → b ≡ changed freeze_roots a → SameFrames a b
@@ -78,18 +78,18 @@ module _ {R : Type 0} where
   after_reading m ws o = record m { worlds = ws; outside = o }
 
   -- what reading the file of an include tells of it
-  abbrev pub Tells_file : Text → At → Machine R → Result Included EvalFault → Type 0
+  abbrev pub Tells_file : Text → At → Machine R → Result IncludedFile EvalFault → Type 0
   Tells_file name at m result =
       IfSome m.outside.disk (λ disk. (reading : Reading) → IsReading disk.now (path_at name m) reading
       → IsFileOf (file_of (is_in_roots m.worlds.now (path_at name m)) reading (path_at name m) (spot_of at)) (path_at name m) result)
 
-  file_so : (name : Text) (at : At) (m : Machine R) (result : Result Included EvalFault) (setting : Setting R) → IsSettingOf setting m → Tells_file name at m result
+  file_so : (name : Text) (at : At) (m : Machine R) (result : Result IncludedFile EvalFault) (setting : Setting R) → IsSettingOf setting m → Tells_file name at m result
       → IsFileOf (file_of (is_in_roots m.worlds.now (path_at name m)) (setting.reading (path_at name m)) (path_at name m) (spot_of at)) (path_at name m) result
   file_so name at m result setting is told =
       with_disk m.outside.disk setting.sight.folder (λ r. IsFileOf (file_of (is_in_roots m.worlds.now (path_at name m)) r (path_at name m) (spot_of at)) (path_at name m) result) (path_at name m) (setting.reading (path_at name m))
       is.folder (is.right.reads (path_at name m)) told
 
-  stays_read : (m : Machine R) (ws : Worlds) (o : Outside) (result : Result Included EvalFault) → IsFrozen m.worlds ws result → Looked m.outside o result → Stays m (after_reading m ws o)
+  stays_read : (m : Machine R) (ws : Worlds) (o : Outside) (result : Result IncludedFile EvalFault) → IsFrozen m.worlds ws result → Looked m.outside o result → Stays m (after_reading m ws o)
   stays_read m ws o result frozen looked = (let same = same_frozen m.worlds ws result frozen in record {
     turns = omega arith;
     budget = refl;
@@ -119,7 +119,7 @@ module _ {R : Type 0} where
           ∙ ap (λ f. by_file f (path_at name m) at setting (state_of (record m { worlds = changed freeze_roots m.worlds }))) so
           ∙ ap (λ w. fault_at cause.0 cause.1 (state_of (record m { worlds = w }))) (sym frozen))
 
-  pub read_fails : (name : Text) (at : At) (m : Machine R) (ws : Worlds) (o : Outside) (e : EvalFault) → IsFrozen m.worlds ws (Err e) → Looked {A = Included} m.outside o (Err e) → Tells_file name at m (Err e) → refused_of {A = Included} (Err e) ≡ None
+  pub read_fails : (name : Text) (at : At) (m : Machine R) (ws : Worlds) (o : Outside) (e : EvalFault) → IsFrozen m.worlds ws (Err e) → Looked {A = IncludedFile} m.outside o (Err e) → Tells_file name at m (Err e) → refused_of {A = IncludedFile} (Err e) ≡ None
       → Does flow_of (included_at name at) m (after_reading m ws o) (Err e)
   read_fails name at m ws o e frozen looked told none = record {
     told = λ setting is refuses. read_agrees e name at m ws o setting is frozen told;
@@ -130,7 +130,7 @@ module _ {R : Type 0} where
   }
 
   -- the file is read: its statements are left
-  pub read_leads : (name : Text) (at : At) (m : Machine R) (ws : Worlds) (o : Outside) (file : Included) → IsFrozen m.worlds ws (Ok file) → Looked m.outside o (Ok file) → Tells_file name at m (Ok file)
+  pub read_leads : (name : Text) (at : At) (m : Machine R) (ws : Worlds) (o : Outside) (file : IncludedFile) → IsFrozen m.worlds ws (Ok file) → Looked m.outside o (Ok file) → Tells_file name at m (Ok file)
       → Leads (included_at name at) (file_runs file.path (whole_tree file.tree) at) m (after_reading m ws o)
   read_leads name at m ws o file frozen looked told = record {
     told = λ setting is none. go setting (file_so name at m (Ok file) setting is told);
@@ -160,7 +160,7 @@ module _ {R : Type 0} where
       subst (λ r. Does flow_of (λ setting s. then_do (file_ended (what setting s)) (λ end_. λ s₁. gives goes_on s₁)) a b r) (sym is)
       (record { told = λ setting right refuses. end_agrees setting e (what setting (state_of a)) (state_of b) (h.told setting right refuses); stays = h.stays; counts = h.counts; whole = h.whole; took = h.took })
 
-  pub included_runs : (name : Text) (at : At) (m : Machine R) (ws : Worlds) (o : Outside) (file : Included) (b : Block) (opened : Worlds) (n : Machine R) (closed : Worlds) (ended result : Result Way EvalFault)
+  pub included_runs : (name : Text) (at : At) (m : Machine R) (ws : Worlds) (o : Outside) (file : IncludedFile) (b : Block) (opened : Worlds) (n : Machine R) (closed : Worlds) (ended result : Result Way EvalFault)
       → whole_tree file.tree ≡ block_tree b → IsFrozen m.worlds ws (Ok file) → Looked m.outside o (Ok file) → Tells_file name at m (Ok file) → opened ≡ entered ws
       → Does flow_of (deeper_at b file.path at) (record (after_reading m ws o) { worlds = opened }) n ended → closed ≡ rescoped leave n.worlds → IsFileEnd ended result
       → Does flow_of (included_at name at) m (record n { worlds = closed }) result

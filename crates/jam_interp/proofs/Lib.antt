@@ -13,6 +13,6 @@ pub mod StepTextsAreMadeAside
 pub mod StepsCallTheirRule
 pub mod RoundsLeadOnOrEnd
 pub mod CodeDoesWhatTreesDo
-pub mod OnlyThreeFormsSetVariables
+pub mod AssigningFormsSetVariables
 pub mod FaultsAreHandedOn
 pub mod ExpansionsAreSmall

@@ -4,17 +4,17 @@ use Rattle.jam_journal.specs.Tables.{Text}
 use Rattle.jam_journal.specs.Scopes.{Value, leave}
 use Rattle.jam_scope.specs.Worlds.{Worlds}
 use Rattle.jam_scope.specs.Changes.{rescoped, module_in, mark, roll_back, newest_of}
-use Rattle.jam_eval.specs.Faults.{Spot}
-use Rattle.jam_eval.specs.States.{State}
-use Rattle.jam_eval.specs.Settings.{Setting}
+use Rattle.jam_meaning.specs.Faults.{Spot}
+use Rattle.jam_meaning.specs.States.{State}
+use Rattle.jam_meaning.specs.Settings.{Setting}
 use Rattle.jam_grammar.specs.declared.tree.Stmt.{Stmt}
 use Rattle.jam_grammar.specs.Trees.{StmtTrees, stmts_tree}
-use Rattle.jam_eval.specs.Outcomes.{Outcome, Flow, in_frame, in_module}
-use Rattle.jam_eval.specs.Args.{call}
-use Rattle.jam_eval.specs.Includes.{file_ended}
-use Rattle.jam_eval.specs.Forms.{stmts}
-use Rattle.jam_eval.specs.Eval.{levels, most_levels, run_call}
-use Rattle.jam_eval.specs.Rolled.{back_to, in_copy, nowhere}
+use Rattle.jam_meaning.specs.Outcomes.{Outcome, Flow, in_frame, in_module}
+use Rattle.jam_meaning.specs.Args.{call}
+use Rattle.jam_meaning.specs.Includes.{file_ended}
+use Rattle.jam_meaning.specs.Forms.{stmts}
+use Rattle.jam_meaning.specs.Eval.{levels, most_levels, run_call}
+use Rattle.jam_meaning.specs.Rolled.{back_to, in_copy, nowhere}
 use Rattle.jam_effects.specs.declared.flow.Flow.{Flow as Way}
 use Rattle.jam_effects.specs.declared.fault.EvalFault.{EvalFault}
 use Rattle.jam_effects.specs.declared.fault.EvalFault.TheVariants as fault
@@ -22,8 +22,8 @@ use Rattle.jam_effects.specs.Machines.{Machine, state_of}
 use Rattle.jam_effects.specs.Does.{Faults, Agrees, Tells, Does}
 use Rattle.jam_effects.specs.Framing.{entered}
 use Rattle.jam_effects.specs.Views.{What, value, flow_of, ended}
-use Rattle.jam_interp.specs.Parts.{run_at, stmts_at, call_rolled_at}
-use Rattle.jam_eval.proofs.RecordsOnlyGrow.{file_begins, back_begins}
+use Rattle.jam_interp.specs.FunctionParts.{run_at, stmts_at, call_rolled_at}
+use Rattle.jam_meaning.proofs.RecordsOnlyGrow.{file_begins, back_begins}
 use Rattle.jam_effects.proofs.FramesCloseEvenAfterFaults.{in_frame_does}
 use Rattle.jam_interp.proofs.ArgumentsDoAsDefined.{does_by}
 

@@ -3,11 +3,11 @@ use Rattle.std.proofs.Common.{◌≡◌, ◌-◌, ◌<◌, ℕ, zero, suc, List,
 use Rattle.jam_grammar.specs.Trees.{StmtTrees, InnerTree}
 use Rattle.jam_journal.specs.Tables.{Text}
 use Rattle.jam_journal.specs.Scopes.{Value}
-use Rattle.jam_eval.specs.Faults.{Spot, depth}
-use Rattle.jam_eval.specs.States.{State}
-use Rattle.jam_eval.specs.Settings.{Setting}
-use Rattle.jam_eval.specs.Outcomes.{fault_at}
-use Rattle.jam_eval.specs.Eval.{levels, one_level}
+use Rattle.jam_meaning.specs.Faults.{Spot, depth}
+use Rattle.jam_meaning.specs.States.{State}
+use Rattle.jam_meaning.specs.Settings.{Setting}
+use Rattle.jam_meaning.specs.Outcomes.{fault_at}
+use Rattle.jam_meaning.specs.Eval.{levels, one_level}
 
 pub some_left : (n : ℕ) → (n ≡ 0 → ⊥) → 0 < n
 some_left n some = omega (arith, some)

@@ -10,11 +10,11 @@ use Rattle.jam_journal.specs.Tables.{Text}
 use Rattle.jam_journal.specs.Scopes.{Value, assign}
 use Rattle.jam_scope.specs.Worlds.{Worlds}
 use Rattle.jam_scope.specs.Changes.{rescoped}
-use Rattle.jam_eval.specs.Faults.{turns}
-use Rattle.jam_eval.specs.Settings.{Meaning}
-use Rattle.jam_eval.specs.Conds.{is_true}
-use Rattle.jam_eval.specs.Outcomes.{Flow, then_go}
-use Rattle.jam_eval.specs.Calls.{kept_if}
+use Rattle.jam_meaning.specs.Faults.{turns}
+use Rattle.jam_meaning.specs.Settings.{Meaning}
+use Rattle.jam_meaning.specs.Conds.{is_true}
+use Rattle.jam_meaning.specs.Outcomes.{Flow, then_go}
+use Rattle.jam_meaning.specs.RuleCalls.{kept_if}
 use Rattle.jam_effects.specs.declared.at.At.{At}
 use Rattle.jam_effects.specs.declared.turns.Turns.{Turns}
 use Rattle.jam_effects.specs.declared.fault.EvalFault.{EvalFault}
@@ -26,7 +26,7 @@ use Rattle.jam_effects.specs.Naming.{SameFrames}
 use Rattle.jam_effects.specs.Machines.{Machine, machine}
 use Rattle.jam_effects.specs.Does.{Does, Leads}
 use Rattle.jam_effects.specs.Views.{value, truth, flow_of, What}
-use Rattle.jam_interp.specs.Parts.{arg_at, args_rest, bracket_call_at, transformed_rest, filtered_rest, expr_at, block_at, started_at, rounds_at, while_rest}
+use Rattle.jam_interp.specs.FunctionParts.{arg_at, args_rest, bracket_call_at, transformed_rest, filtered_rest, expr_at, block_at, started_at, rounds_at, while_rest}
 use Rattle.jam_interp.proofs.TargetBracketsDoAsDefined.{memory_led}
 use Rattle.jam_interp.proofs.ArgumentsDoAsDefined.{args_arg_done, args_join_fails, args_goes}
 use Rattle.jam_interp.proofs.CallsDoAsDefined.{transformed_called, transformed_large, transformed_goes, filtered_goes}

@@ -13,7 +13,7 @@ use Rattle.jam_journal.specs.Scopes.{Value, leave}
 use Rattle.jam_scope.specs.Rules.{Body, Rule, rule_of}
 use Rattle.jam_scope.specs.Worlds.{Worlds}
 use Rattle.jam_scope.specs.Changes.{rescoped}
-use Rattle.jam_eval.specs.Params.{call_binds}
+use Rattle.jam_meaning.specs.Params.{call_binds}
 use Rattle.jam_values.specs.declared.bindings.Bound.{Bound}
 use Rattle.jam_values.specs.Bindings.{bindings_of}
 use Rattle.jam_effects.specs.declared.at.At.{At}
@@ -23,7 +23,7 @@ use Rattle.jam_effects.specs.Framing.{call_entered}
 use Rattle.jam_effects.specs.Machines.{Machine}
 use Rattle.jam_effects.specs.Does.{Does}
 use Rattle.jam_effects.specs.Views.{value, flow_of, IsValueOf}
-use Rattle.jam_interp.specs.Parts.{run_rule_at, stmts_at}
+use Rattle.jam_interp.specs.FunctionParts.{run_rule_at, stmts_at}
 use Rattle.jam_interp.proofs.CallsDoAsDefined.{rule_runs}
 
 -- the tree of a block is that of its statements

@@ -16,14 +16,14 @@ use Rattle.jam_journal.specs.Tables.{Text}
 use Rattle.jam_journal.specs.Scopes.{Value, enter, leave, bind_each, assign}
 use Rattle.jam_scope.specs.Worlds.{Worlds}
 use Rattle.jam_scope.specs.Changes.{rescoped, module_in}
-use Rattle.jam_eval.specs.Faults.{depth, turns}
-use Rattle.jam_eval.specs.States.{State, with_scopes}
-use Rattle.jam_eval.specs.Settings.{Setting, IsMatching}
-use Rattle.jam_eval.specs.Outcomes.{gives, Flow, goes_on, returns, then_do, then_go, either, in_module, close_frame, on_target, own_bindings}
-use Rattle.jam_eval.specs.Levels.{Levels}
-use Rattle.jam_eval.specs.Forms.{block, done, form, stmts, other, for_all, set_name, first_case}
+use Rattle.jam_meaning.specs.Faults.{depth, turns}
+use Rattle.jam_meaning.specs.States.{State, with_scopes}
+use Rattle.jam_meaning.specs.Settings.{Setting, IsMatching}
+use Rattle.jam_meaning.specs.Outcomes.{gives, Flow, goes_on, returns, then_do, then_go, either, in_module, close_frame, on_target, own_bindings}
+use Rattle.jam_meaning.specs.Levels.{Levels}
+use Rattle.jam_meaning.specs.Forms.{block, done, form, stmts, other, for_all, set_name, first_case}
 use Rattle.jam_values.specs.Choosing.{chosen}
-use Rattle.jam_eval.specs.Eval.{levels}
+use Rattle.jam_meaning.specs.Eval.{levels}
 use Rattle.jam_effects.specs.declared.at.At.{At}
 use Rattle.jam_effects.specs.declared.flow.Flow.{Flow as Way}
 use Rattle.jam_effects.specs.declared.flow.Flow.TheVariants as ways
@@ -35,9 +35,9 @@ use Rattle.jam_effects.specs.Naming.{set_names_in, IsRefused, IsMade, SameFrames
 use Rattle.jam_effects.specs.Machines.{Machine, state_of}
 use Rattle.jam_effects.specs.Does.{Does, Leads}
 use Rattle.jam_effects.specs.Views.{value, truth, flow_of, What}
-use Rattle.jam_interp.specs.Parts.{deep, args_at, arg_at, expr_at, call_of_at, stmts_at, started_at, form_at, block_at, deeper_at, other_at, returned_at, if_at, called_at, rounds_at, assign_at, switch_at}
-use Rattle.jam_eval.specs.Kept.{Begins}
-use Rattle.jam_eval.proofs.RecordsOnlyGrow.{then_begins, same_begins, either_begins, args_begins, for_all_begins, set_name_begins, block_begins, other_begins, stmts_begins, for_begins, case_begins}
+use Rattle.jam_interp.specs.FunctionParts.{deep, args_at, arg_at, expr_at, call_of_at, stmts_at, started_at, form_at, block_at, deeper_at, other_at, returned_at, if_at, called_at, rounds_at, assign_at, switch_at}
+use Rattle.jam_meaning.specs.Kept.{Begins}
+use Rattle.jam_meaning.proofs.RecordsOnlyGrow.{then_begins, same_begins, either_begins, args_begins, for_all_begins, set_name_begins, block_begins, other_begins, stmts_begins, for_begins, case_begins}
 use Rattle.jam_effects.proofs.OrderedCallsDoAsDefined.{err_then, ok_then, err_go, ok_go, ended_go, led, leads_then, value_now, fault_now, either_true, either_false}
 use Rattle.jam_effects.proofs.FramesCloseEvenAfterFaults.{in_frame_does, bound_does}
 use Rattle.jam_interp.proofs.ChangesDoAsDefined.{stays_worlds, change_fails, change_does}

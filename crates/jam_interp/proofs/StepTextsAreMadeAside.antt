@@ -10,24 +10,24 @@ use Rattle.jam_scope.specs.Rules.{Actions}
 use Rattle.jam_scope.specs.Worlds.{World, Worlds}
 use Rattle.jam_scope.specs.Changes.{changed, rescoped, open_step, mark, roll_back, newest_of}
 use Rattle.jam_scope.specs.Lines.{actions_place, find_rule}
-use Rattle.jam_eval.specs.Faults.{Spot, Cause, unknown_rule, expand, refused_in}
-use Rattle.jam_eval.specs.Settings.{Setting}
-use Rattle.jam_eval.specs.States.{State}
-use Rattle.jam_eval.specs.Outcomes.{Outcome, gives, faults, then_do, fault_at, close_frame}
-use Rattle.jam_eval.specs.Rolled.{Job, StepAnswer, step_open, body_names, back_to, text_of, body_text, actions_text, rule_if}
+use Rattle.jam_meaning.specs.Faults.{Spot, Cause, unknown_rule, expand, refused_in}
+use Rattle.jam_meaning.specs.Settings.{Setting}
+use Rattle.jam_meaning.specs.States.{State}
+use Rattle.jam_meaning.specs.Outcomes.{Outcome, gives, faults, then_do, fault_at, close_frame}
+use Rattle.jam_meaning.specs.Rolled.{Job, StepAnswer, step_open, body_names, back_to, text_of, body_text, actions_text, rule_if}
 use Rattle.jam_effects.specs.declared.at.At.{At}
-use Rattle.jam_eval.specs.declared.step.StepText.{StepText}
+use Rattle.jam_meaning.specs.declared.step.StepText.{StepText}
 use Rattle.jam_effects.specs.declared.fault.EvalFault.{EvalFault}
 use Rattle.jam_effects.specs.declared.fault.EvalFault.TheVariants as fault
 use Rattle.jam_effects.specs.Spots.{spot_of}
 use Rattle.jam_effects.specs.Machines.{Machine, state_of}
 use Rattle.jam_effects.specs.Does.{Agrees, Tells, Does, DoesAside}
-use Rattle.jam_eval.specs.StepJobs.{step_answer}
+use Rattle.jam_meaning.specs.StepJobs.{step_answer}
 use Rattle.jam_effects.specs.Rolling.{text_of_body, text_of_actions, texted, IsStepText}
 use Rattle.jam_effects.specs.Views.{value, What}
-use Rattle.jam_interp.specs.Parts.{rule_if_at, in_step_at, step_text_at}
-use Rattle.jam_eval.specs.Kept.{Begins}
-use Rattle.jam_eval.proofs.RecordsOnlyGrow.{same_begins, fault_begins, close_begins, back_begins}
+use Rattle.jam_interp.specs.FunctionParts.{rule_if_at, in_step_at, step_text_at}
+use Rattle.jam_meaning.specs.Kept.{Begins}
+use Rattle.jam_meaning.proofs.RecordsOnlyGrow.{same_begins, fault_begins, close_begins, back_begins}
 use Rattle.jam_effects.proofs.OrderedCallsDoAsDefined.{err_then, ok_then, led, value_now, fault_now, out_of_memory}
 use Rattle.jam_effects.proofs.WhatEachKeepsAllKeep.{stays_same}
 

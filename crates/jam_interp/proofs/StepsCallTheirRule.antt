@@ -5,16 +5,16 @@ use Rattle.jam_journal.specs.Tables.{Key, Table}
 use Rattle.jam_journal.specs.Scopes.{Value}
 use Rattle.jam_scope.specs.Changes.{module_in}
 use Rattle.jam_scope.specs.Lines.{first_at, places_from, rule_place, at_key}
-use Rattle.jam_eval.specs.Args.{call}
-use Rattle.jam_eval.specs.Eval.{levels, most_levels, run_call}
-use Rattle.jam_eval.specs.Rolled.{Job, rule_if}
+use Rattle.jam_meaning.specs.Args.{call}
+use Rattle.jam_meaning.specs.Eval.{levels, most_levels, run_call}
+use Rattle.jam_meaning.specs.Rolled.{Job, rule_if}
 use Rattle.jam_effects.specs.declared.at.At.{At}
 use Rattle.jam_effects.specs.declared.fault.EvalFault.{EvalFault}
 use Rattle.jam_effects.specs.Spots.{spot_of}
 use Rattle.jam_effects.specs.Machines.{Machine, state_of}
 use Rattle.jam_effects.specs.Does.{Does}
 use Rattle.jam_effects.specs.Views.{value}
-use Rattle.jam_interp.specs.Parts.{call_at, rule_if_at}
+use Rattle.jam_interp.specs.FunctionParts.{call_at, rule_if_at}
 use Rattle.jam_effects.proofs.OrderedCallsDoAsDefined.{value_now}
 use Rattle.jam_interp.proofs.ArgumentsDoAsDefined.{does_by}
 

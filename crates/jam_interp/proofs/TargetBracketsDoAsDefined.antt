@@ -6,7 +6,7 @@ use Rattle.jam_grammar.specs.Trees.{inner_tree, args_tree}
 use Rattle.jam_journal.specs.Scopes.{Value, leave}
 use Rattle.jam_scope.specs.Worlds.{Worlds}
 use Rattle.jam_scope.specs.Changes.{rescoped}
-use Rattle.jam_eval.specs.Outcomes.{on_target}
+use Rattle.jam_meaning.specs.Outcomes.{on_target}
 use Rattle.jam_effects.specs.declared.at.At.{At}
 use Rattle.jam_effects.specs.declared.fault.EvalFault.{EvalFault}
 use Rattle.jam_effects.specs.declared.fault.EvalFault.TheVariants as fault
@@ -15,8 +15,8 @@ use Rattle.jam_effects.specs.Framing.{on_entered}
 use Rattle.jam_effects.specs.Machines.{Machine}
 use Rattle.jam_effects.specs.Does.{Stays, Does, Leads}
 use Rattle.jam_effects.specs.Views.{value, What}
-use Rattle.jam_interp.specs.Parts.{arg_at, args_at, inner_at, on_inner_at, on_return_at}
-use Rattle.jam_eval.proofs.RecordsOnlyGrow.{target_begins, inner_begins, args_begins}
+use Rattle.jam_interp.specs.FunctionParts.{arg_at, args_at, inner_at, on_inner_at, on_return_at}
+use Rattle.jam_meaning.proofs.RecordsOnlyGrow.{target_begins, inner_begins, args_begins}
 use Rattle.jam_effects.proofs.WhatEachKeepsAllKeep.{stays_equal, stays_then}
 use Rattle.jam_effects.proofs.OrderedCallsDoAsDefined.{err_then, ok_then, led, out_of_memory}
 use Rattle.jam_interp.proofs.StatementsDoAsDefined.{on_target_does}

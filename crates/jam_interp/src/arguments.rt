@@ -4,7 +4,7 @@
 //! definition of its name does, where so many levels more may be opened, and closes what it opened before it hands a fault on.
 ghost use Rattle.jam_effects.specs.Does.{DoesOn};
 ghost use Rattle.jam_effects.specs.Views.{value, values};
-ghost use Rattle.jam_interp.specs.Parts.{arg_at, bracket_at, inner_at, on_inner_at, on_return_at, args_at, lists_at};
+ghost use Rattle.jam_interp.specs.FunctionParts.{arg_at, bracket_at, inner_at, on_inner_at, on_return_at, args_at, lists_at};
 
 use crate::calls::call_of;
 use b2_base::text_list::TextList;
@@ -15,9 +15,9 @@ use jam_effects::frames::enter_target;
 use jam_effects::lending::only_word;
 use jam_effects::turns::Turns;
 use jam_effects::words::{join_at, word};
-use jam_eval::natives::Natives;
-use jam_expand::limit::Gathered;
+use jam_expand::limit::LimitedList;
 use jam_grammar::tree::{Arg, Inner};
+use jam_meaning::natives::Natives;
 use jam_scope::world::World;
 use jam_values::lists::TextLists;
 use std::alloc::Global;
@@ -155,7 +155,7 @@ pub(crate) fn args<N: Natives, F: Files>(
     if let Some(only) = only_word(args) {
         return word(alloc, world, only, at);
     }
-    let mut gathered = Gathered::new(alloc);
+    let mut gathered = LimitedList::new(alloc);
     'each: for one in args {
         let value = arg(alloc, world, turns, natives, files, one, at)?;
         join_at(&mut gathered, value.as_slice(), at)?;

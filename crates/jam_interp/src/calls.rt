@@ -1,7 +1,7 @@
 //! Calls.
 ghost use Rattle.jam_effects.specs.Does.{DoesOn, DoesInCallOn};
 ghost use Rattle.jam_effects.specs.Views.{value};
-ghost use Rattle.jam_interp.specs.Parts.{call_of_at, call_head_at, call_at, applied_at, ruled_at, run_rule_at, unruled_at, stepped_at, transformed_at, filtered_at, bracket_call_at};
+ghost use Rattle.jam_interp.specs.FunctionParts.{call_of_at, call_head_at, call_at, applied_at, ruled_at, run_rule_at, unruled_at, stepped_at, transformed_at, filtered_at, bracket_call_at};
 
 use crate::arguments::{arg, lists};
 use crate::statements::stmts;
@@ -16,9 +16,9 @@ use jam_effects::frames::enter_call;
 use jam_effects::natives::{arity, native_step, record_call, unknown_rule};
 use jam_effects::turns::{Turns, take_turn};
 use jam_effects::words::{join_at, keep_if};
-use jam_eval::natives::{NativeStep, Natives};
-use jam_expand::limit::Gathered;
+use jam_expand::limit::LimitedList;
 use jam_grammar::tree::Arg;
+use jam_meaning::natives::{NativeStep, Natives};
 use jam_scope::rule::Rule;
 use jam_scope::world::World;
 use jam_values::bindings::call_binds;
@@ -267,7 +267,7 @@ fn transformed<N: Natives, F: Files>(
 ) -> Result<TextList, EvalFault>
     ensures { DoesOn N.kept N.meaning F.outside value (transformed_at rule.now items.now at.now) world.old turns.old natives.old files.old world.new turns.new natives.new files.new result }
 {
-    let mut gathered = Gathered::new(alloc);
+    let mut gathered = LimitedList::new(alloc);
     'each: for item in items {
         let value = bracket_call(alloc, world, turns, natives, files, rule, item, at)?;
         join_at(&mut gathered, value.as_slice(), at)?;

@@ -1,7 +1,7 @@
 //! Conditions.
 ghost use Rattle.jam_effects.specs.Does.{DoesOn};
 ghost use Rattle.jam_effects.specs.Views.{truth};
-ghost use Rattle.jam_interp.specs.Parts.{expr_at, any_of_at, all_of_at, bare_at, same_at, among_at};
+ghost use Rattle.jam_interp.specs.FunctionParts.{expr_at, any_of_at, all_of_at, bare_at, same_at, among_at};
 
 use crate::arguments::{arg, args};
 use b2_host::files::Files;
@@ -9,8 +9,8 @@ use jam_effects::at::At;
 use jam_effects::fault::EvalFault;
 use jam_effects::lending::{lent_same, lent_true, lent_within};
 use jam_effects::turns::Turns;
-use jam_eval::natives::Natives;
 use jam_grammar::tree::{Arg, Expr};
+use jam_meaning::natives::Natives;
 use jam_scope::world::World;
 use jam_values::conditions::{is_same, is_true, is_within};
 use std::alloc::Global;

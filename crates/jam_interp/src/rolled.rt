@@ -2,11 +2,11 @@
 ghost use Rattle.std.specs.Prelude.{◌≡◌, ◌≤◌, IfErr};
 ghost use Rattle.b2_base.specs.Bytes.{HasNoZero};
 ghost use Rattle.b2_host.specs.OutsideLaws.{Keeps};
-ghost use Rattle.jam_eval.specs.Refused.{TookTurn};
+ghost use Rattle.jam_meaning.specs.Refused.{TookTurn};
 ghost use Rattle.jam_effects.specs.Causes.{refused_of, HoldsNoMemory};
 ghost use Rattle.jam_effects.specs.Does.{TellsOn, Counts};
-ghost use Rattle.jam_interp.specs.Parts.{call_rolled_at, call_value};
-ghost use Rattle.jam_interp.specs.Parts.{call_value};
+ghost use Rattle.jam_interp.specs.FunctionParts.{call_rolled_at, call_value};
+ghost use Rattle.jam_interp.specs.FunctionParts.{call_value};
 
 use crate::calls::call;
 use b2_base::text::Text;
@@ -15,7 +15,7 @@ use b2_host::files::Files;
 use jam_effects::at::{At, LEVELS};
 use jam_effects::fault::EvalFault;
 use jam_effects::turns::Turns;
-use jam_eval::natives::Natives;
+use jam_meaning::natives::Natives;
 use jam_scope::world::World;
 use std::alloc::Global;
 

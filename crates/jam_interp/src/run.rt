@@ -2,12 +2,12 @@
 ghost use Rattle.std.specs.Prelude.{◌≡◌, ◌≤◌, is_some, IfErr};
 ghost use Rattle.b2_host.specs.OutsideLaws.{Keeps};
 ghost use Rattle.jam_grammar.specs.Trees.{whole_tree};
-ghost use Rattle.jam_eval.specs.Laws.{bounds};
-ghost use Rattle.jam_eval.specs.Refused.{TookTurn};
+ghost use Rattle.jam_meaning.specs.Laws.{bounds};
+ghost use Rattle.jam_meaning.specs.Refused.{TookTurn};
 ghost use Rattle.jam_effects.specs.Causes.{refused_of, HoldsNoMemory};
 ghost use Rattle.jam_effects.specs.Does.{TellsOn, Counts};
 ghost use Rattle.jam_effects.specs.Views.{ended};
-ghost use Rattle.jam_interp.specs.Parts.{run_at};
+ghost use Rattle.jam_interp.specs.FunctionParts.{run_at};
 
 use crate::statements::stmts;
 use b2_base::path::Path;
@@ -16,8 +16,8 @@ use jam_effects::at::LEVELS;
 use jam_effects::fault::EvalFault;
 use jam_effects::frames::enter_here;
 use jam_effects::turns::Turns;
-use jam_eval::natives::Natives;
 use jam_grammar::tree::Tree;
+use jam_meaning::natives::Natives;
 use jam_scope::world::World;
 use std::alloc::Global;
 

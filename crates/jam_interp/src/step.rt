@@ -1,13 +1,13 @@
 //! The texts of steps.
 ghost use Rattle.std.specs.Prelude.{◌≡◌, ◌≤◌, None, IfErr};
 ghost use Rattle.b2_host.specs.OutsideLaws.{Keeps};
-ghost use Rattle.jam_eval.specs.Refused.{TookTurn};
+ghost use Rattle.jam_meaning.specs.Refused.{TookTurn};
 ghost use Rattle.jam_effects.specs.Causes.{refused_of, HoldsNoMemory};
 ghost use Rattle.jam_effects.specs.Does.{TellsOn, DoesOn, DoesAsideOn, Counts};
 ghost use Rattle.jam_effects.specs.Views.{value};
-ghost use Rattle.jam_interp.specs.Parts.{in_step_at, rule_if_at, step_text_at};
-ghost use Rattle.jam_eval.specs.StepJobs.{job_of, step_answer};
-ghost use Rattle.jam_eval.specs.Eval.{most_levels};
+ghost use Rattle.jam_interp.specs.FunctionParts.{in_step_at, rule_if_at, step_text_at};
+ghost use Rattle.jam_meaning.specs.StepJobs.{job_of, step_answer};
+ghost use Rattle.jam_meaning.specs.Eval.{most_levels};
 ghost use Rattle.jam_effects.specs.Spots.{spot_of};
 
 use crate::calls::call;
@@ -17,8 +17,8 @@ use jam_effects::actions::{actions_text, lists_of};
 use jam_effects::at::{At, LEVELS};
 use jam_effects::fault::EvalFault;
 use jam_effects::turns::Turns;
-use jam_eval::natives::Natives;
-use jam_eval::step::{StepJob, StepText};
+use jam_meaning::natives::Natives;
+use jam_meaning::step::{StepJob, StepText};
 use jam_scope::world::World;
 use std::alloc::Global;
 

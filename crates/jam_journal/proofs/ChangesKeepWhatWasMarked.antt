@@ -1,7 +1,7 @@
 -- What each change of registers and entries is, and that it leaves what was at the marks.
 use Rattle.std.proofs.Common.{inl, inr, ◌≡◌, ℕ, suc, ◌<◌, ◌≤◌, true, false, Bool, cond, ◌||◌, List, [], ◌∷◌, ◌++◌, length, drop, Option, Some, None, is_some, refl, sym, ap, subst, ◌∙◌, arith}
 use Rattle.std.specs.FinMap.{get, insert}
-use Rattle.jam_journal.specs.declared.past.Replaced.{Replaced}
+use Rattle.jam_journal.specs.declared.past.Replacement.{Replacement}
 use Rattle.jam_journal.specs.declared.registers.Cell.{Cell}
 use Rattle.jam_journal.specs.declared.registers.Registers.{Registers}
 use Rattle.jam_journal.specs.declared.registers.Scope.{Scope}
@@ -17,7 +17,7 @@ use Rattle.jam_journal.proofs.GoingBackUndoesSetting.{agree_put, low_at, low_put
 use Rattle.jam_journal.proofs.LookupsFindWhatCellsHold.{module_is}
 use Rattle.jam_journal.proofs.SettingIsAssigning.{assign_is, append_is}
 
-pub here : (older : Layers) (r : Registers) (es : List Scope) (cs : List (Replaced Cell)) → AllKept r es cs older → IsKept r es cs older
+pub here : (older : Layers) (r : Registers) (es : List Scope) (cs : List (Replacement Cell)) → AllKept r es cs older → IsKept r es cs older
 here [] r es cs h = h
 here (l ∷ ls) r es cs h = h.0
 
@@ -26,11 +26,11 @@ abbrev SameBack : Layers → Registers → Registers → Type 0
 SameBack [] a b = Unit {0}
 SameBack (l ∷ ls) a b = a ≡ b
 
-kept_by : (older : Layers) (r q : Registers) (es fs : List Scope) (cs ds : List (Replaced Cell)) → IsKept q fs ds older → SameBack older (back q fs ds) (back r es cs) → AllKept r es cs older → AllKept q fs ds older
+kept_by : (older : Layers) (r q : Registers) (es fs : List Scope) (cs ds : List (Replacement Cell)) → IsKept q fs ds older → SameBack older (back q fs ds) (back r es cs) → AllKept r es cs older → AllKept q fs ds older
 kept_by [] r q es fs cs ds k e h = k
 kept_by (l ∷ ls) r q es fs cs ds k e h = (k, subst (λ b. AllKept b l.0 l.1 ls) (sym e) h.1)
 
-same_marks : (older : Layers) (r q : Registers) (es fs : List Scope) (cs ds : List (Replaced Cell)) → SameBack older (back q fs ds) (back r es cs) → marked_by q fs ds older ≡ marked_by r es cs older
+same_marks : (older : Layers) (r q : Registers) (es fs : List Scope) (cs ds : List (Replacement Cell)) → SameBack older (back q fs ds) (back r es cs) → marked_by q fs ds older ≡ marked_by r es cs older
 same_marks [] r q es fs cs ds e = refl
 same_marks (l ∷ ls) r q es fs cs ds e = ap (λ b. seen b (l.0 ++ entries_of ls) ∷ marked_by b l.0 l.1 ls) e
 
@@ -38,11 +38,11 @@ same_back : (older : Layers) (a b : Registers) → a ≡ b → SameBack older a 
 same_back [] a b e = tt
 same_back (l ∷ ls) a b e = e
 
-fresh_same : (older : Layers) (r q : Registers) (es fs : List Scope) (cs : List (Replaced Cell)) → ((count : ℕ) → AreFresh count r es cs → AreFresh count q fs cs) → FreshSince older r es cs → FreshSince older q fs cs
+fresh_same : (older : Layers) (r q : Registers) (es fs : List Scope) (cs : List (Replacement Cell)) → ((count : ℕ) → AreFresh count r es cs → AreFresh count q fs cs) → FreshSince older r es cs → FreshSince older q fs cs
 fresh_same [] r q es fs cs f h = tt
 fresh_same (l ∷ ls) r q es fs cs f h = f (suc (length ls)) h
 
-module _ (older : Layers) (r : Registers) (es : List Scope) (cs : List (Replaced Cell)) (h : AllKept r es cs older) where
+module _ (older : Layers) (r : Registers) (es : List Scope) (cs : List (Replacement Cell)) (h : AllKept r es cs older) where
   -- ---- opening a frame
 
   pub enter_kept : (m : Text) → AllKept (in_frame m r) (Opened r.owner ∷ es) cs older
@@ -242,7 +242,7 @@ left_low count (Opened o ∷ es) r h = h.1
 left_low count (Called o c ∷ es) r h = h.1
 left_low count (Bound n b u ∷ es) r h = left_low count es (step_back (Bound n b u) r) h.1
 
-left_fresh : (count : ℕ) (es : List Scope) (r : Registers) (cs : List (Replaced Cell)) → AreFresh count r es cs → AreFresh count (left_by es r).0 (left_by es r).1 cs
+left_fresh : (count : ℕ) (es : List Scope) (r : Registers) (cs : List (Replacement Cell)) → AreFresh count r es cs → AreFresh count (left_by es r).0 (left_by es r).1 cs
 left_fresh count [] r cs h = h
 left_fresh count (Opened o ∷ es) r cs h = h
 left_fresh count (Called o c ∷ es) r cs h = h
@@ -254,7 +254,7 @@ left_closed (Opened o ∷ es) rest r = refl
 left_closed (Called o c ∷ es) rest r = refl
 left_closed (Bound n b u ∷ es) rest r = left_closed es rest (step_back (Bound n b u) r)
 
-left_back : (es : List Scope) (r : Registers) (cs : List (Replaced Cell)) → back (left_by es r).0 (left_by es r).1 cs ≡ back r es cs
+left_back : (es : List Scope) (r : Registers) (cs : List (Replacement Cell)) → back (left_by es r).0 (left_by es r).1 cs ≡ back r es cs
 left_back [] r cs = refl
 left_back (Opened o ∷ es) r cs = refl
 left_back (Called o c ∷ es) r cs = refl
@@ -268,7 +268,7 @@ left_frames (Bound n b u ∷ es) rest r h =
     left_frames es rest (step_back (Bound n b u) r) h
     ∙ sym (drop_with (n, value_at r.cells (r.owner, n)) (frames_by (step_back (Bound n b u) r) (es ++ rest)))
 
-pub leave_kept : (older : Layers) (r : Registers) (es : List Scope) (cs : List (Replaced Cell)) → AllKept r es cs older → AllKept (left_by es r).0 (left_by es r).1 cs older
+pub leave_kept : (older : Layers) (r : Registers) (es : List Scope) (cs : List (Replacement Cell)) → AllKept r es cs older → AllKept (left_by es r).0 (left_by es r).1 cs older
 leave_kept older r es cs h =
     let k : IsKept r es cs older = here older r es cs h in
     kept_by older r (left_by es r).0 es (left_by es r).1 cs cs
@@ -279,7 +279,7 @@ leave_kept older r es cs h =
     })
     (same_back older (back (left_by es r).0 (left_by es r).1 cs) (back r es cs) (left_back es r cs)) h
 
-pub leave_seen : (older : Layers) (r : Registers) (es : List Scope) (cs : List (Replaced Cell)) → 0 < opened es → scopes_by (left_by es r).0 (left_by es r).1 cs older ≡ changed leave (scopes_by r es cs older)
+pub leave_seen : (older : Layers) (r : Registers) (es : List Scope) (cs : List (Replacement Cell)) → 0 < opened es → scopes_by (left_by es r).0 (left_by es r).1 cs older ≡ changed leave (scopes_by r es cs older)
 leave_seen older r es cs w = λ i. (
   record { frames = left_frames es (entries_of older) r w i; variables = values_of (left_closed es (entries_of older) r i).cells },
   same_marks older r (left_by es r).0 es (left_by es r).1 cs cs (same_back older (back (left_by es r).0 (left_by es r).1 cs) (back r es cs) (left_back es r cs)) i,
@@ -287,8 +287,8 @@ leave_seen older r es cs w = λ i. (
 
 -- ---- rolling back
 
-pub roll_kept : (ls : Layers) (fs : List Scope) (ds : List (Replaced Cell)) (r : Registers) (es : List Scope) (cs : List (Replaced Cell)) → AllKept r es cs ((fs, ds) ∷ ls) → AllKept (back r es cs) fs ds ls
+pub roll_kept : (ls : Layers) (fs : List Scope) (ds : List (Replacement Cell)) (r : Registers) (es : List Scope) (cs : List (Replacement Cell)) → AllKept r es cs ((fs, ds) ∷ ls) → AllKept (back r es cs) fs ds ls
 roll_kept ls fs ds r es cs h = h.1
 
-pub roll_seen : (ls : Layers) (fs : List Scope) (ds : List (Replaced Cell)) (r : Registers) (es : List Scope) (cs : List (Replaced Cell)) → scopes_by (back r es cs) fs ds ls ≡ rolled (scopes_by r es cs ((fs, ds) ∷ ls))
+pub roll_seen : (ls : Layers) (fs : List Scope) (ds : List (Replacement Cell)) (r : Registers) (es : List Scope) (cs : List (Replacement Cell)) → scopes_by (back r es cs) fs ds ls ≡ rolled (scopes_by r es cs ((fs, ds) ∷ ls))
 roll_seen ls fs ds r es cs = refl

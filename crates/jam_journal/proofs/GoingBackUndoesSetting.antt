@@ -2,7 +2,7 @@
 use Rattle.std.proofs.Common.{T, ◌⊎◌, inl, inr, ◌≡◌, ℕ, ◌<◌, ◌≤◌, true, false, Bool, cond, ◌||◌, List, [], ◌∷◌, ◌++◌, Option, Some, None, is_some, refl, sym, ap, subst, ◌∙◌, arith}
 use Rattle.std.specs.Ordering.{eq_by_cmp}
 use Rattle.std.specs.FinMap.{get, insert}
-use Rattle.jam_journal.specs.declared.past.Replaced.{Replaced}
+use Rattle.jam_journal.specs.declared.past.Replacement.{Replacement}
 use Rattle.jam_journal.specs.declared.registers.Cell.{Cell}
 use Rattle.jam_journal.specs.declared.registers.Registers.{Registers}
 use Rattle.jam_journal.specs.declared.registers.Scope.{Scope}
@@ -63,24 +63,24 @@ low_set count (Bound n b u ∷ es) rest r k x s a h =
     by false e again = subst (λ q. StayLow count q es) (sym (stepped r k x n b u a.0.there false e)) again
 
 -- what is noted, and more
-abbrev pub NotesAlso : List (Replaced Cell) → List (Replaced Cell) → Type 0
+abbrev pub NotesAlso : List (Replacement Cell) → List (Replacement Cell) → Type 0
 NotesAlso cs ds = (q : Key) → is_noted cs q ≡ true → is_noted ds q ≡ true
 
 or_more : (t u : Bool) → u ≡ true → (t || u) ≡ true
 or_more true u e = refl
 or_more false u e = e
 
-pub notes_more : (c : Replaced Cell) (cs : List (Replaced Cell)) → NotesAlso cs (c ∷ cs)
+pub notes_more : (c : Replacement Cell) (cs : List (Replacement Cell)) → NotesAlso cs (c ∷ cs)
 notes_more c cs q h = or_more (eq_by_cmp key_cmp q (c.first, c.second)) (is_noted cs q) h
 
-fresh_more : (count : ℕ) (es : List Scope) (r : Registers) (cs ds : List (Replaced Cell)) → NotesAlso cs ds → AreFresh count r es cs → AreFresh count r es ds
+fresh_more : (count : ℕ) (es : List Scope) (r : Registers) (cs ds : List (Replacement Cell)) → NotesAlso cs ds → AreFresh count r es cs → AreFresh count r es ds
 fresh_more count [] r cs ds more h = λ q e. more q (h q e)
 fresh_more count (Opened o ∷ es) r cs ds more h = fresh_more count es (step_back (Opened o) r) cs ds more h
 fresh_more count (Called o c ∷ es) r cs ds more h = fresh_more count es (step_back (Called o c) r) cs ds more h
 fresh_more count (Bound n b u ∷ es) r cs ds more h = (h.0, fresh_more count es (step_back (Bound n b u) r) cs ds more h.1)
 
 -- a cell with the stamp of now is noted where it is not bound, also after it got a value
-pub fresh_set : (count : ℕ) (es rest : List Scope) (r : Registers) (k : Key) (x : Cell) (cs ds : List (Replaced Cell)) → x.stamp ≡ count → NotesAlso cs ds → ((stamp_at r.cells k ≡ count) ⊎ (is_noted ds k ≡ true)) → Agree r (es ++ rest) → AreFresh count r es cs → AreFresh count (put_cell r k x) es ds
+pub fresh_set : (count : ℕ) (es rest : List Scope) (r : Registers) (k : Key) (x : Cell) (cs ds : List (Replacement Cell)) → x.stamp ≡ count → NotesAlso cs ds → ((stamp_at r.cells k ≡ count) ⊎ (is_noted ds k ≡ true)) → Agree r (es ++ rest) → AreFresh count r es cs → AreFresh count (put_cell r k x) es ds
 fresh_set count [] rest r k x cs ds s more new a h = λ q e. by q new (eq_by_cmp key_cmp q k) refl (sym (ap stamp_of (get_put r.cells k (Some x) q)) ∙ e)
   where
     first : (stamp_at r.cells k ≡ count) ⊎ (is_noted ds k ≡ true) → is_noted ds k ≡ true
@@ -110,7 +110,7 @@ fresh_set count (Bound n b u ∷ es) rest r k x cs ds s more new a h = (
     by false e again = subst (λ q. AreFresh count q es ds) (sym (stepped r k x n b u a.0.there false e)) (again (moved e new) a.1 h.1)
 
 -- what is noted of a key is put back over any value
-undone_over : (cs : List (Replaced Cell)) (t : Table Cell) (k : Key) (x : Cell) → is_noted cs k ≡ true → is_some (get t k) ≡ true → undone cs (put t k (Some x)) ≡ undone cs t
+undone_over : (cs : List (Replacement Cell)) (t : Table Cell) (k : Key) (x : Cell) → is_noted cs k ≡ true → is_some (get t k) ≡ true → undone cs (put t k (Some x)) ≡ undone cs t
 undone_over [] t k x h there = absurd (subst T (sym h) tt)
 undone_over (c ∷ cs) t k x h there = by (eq_by_cmp key_cmp k (c.first, c.second)) refl h (undone_over cs (put_back t (c.first, c.second) c.before) k x)
   where
@@ -127,7 +127,7 @@ has_stamp None count e h = absurd (omega arith)
 has_stamp (Some c) count e h = refl
 
 -- back at the newest mark nothing is seen of a value with the stamp of now
-pub back_fresh : (count : ℕ) (es rest : List Scope) (r : Registers) (k : Key) (x : Cell) (cs : List (Replaced Cell)) → 0 < count → stamp_at r.cells k ≡ count → Agree r (es ++ rest) → AreFresh count r es cs → back (put_cell r k x) es cs ≡ back r es cs
+pub back_fresh : (count : ℕ) (es rest : List Scope) (r : Registers) (k : Key) (x : Cell) (cs : List (Replacement Cell)) → 0 < count → stamp_at r.cells k ≡ count → Agree r (es ++ rest) → AreFresh count r es cs → back (put_cell r k x) es cs ≡ back r es cs
 back_fresh count [] rest r k x cs some s a h = ap (λ c. record r { cells = c }) (undone_over cs r.cells k x (h k s) (has_stamp (get r.cells k) count s some))
 back_fresh count (Opened o ∷ es) rest r k x cs some s a h = back_fresh count es rest (step_back (Opened o) r) k x cs some s a h
 back_fresh count (Called o c ∷ es) rest r k x cs some s a h = back_fresh count es rest (step_back (Called o c) r) k x cs some s a h
@@ -139,7 +139,7 @@ back_fresh count (Bound n b u ∷ es) rest r k x cs some s a h =
     by false e again = ap (λ q. back q es cs) (stepped r k x n b u a.0.there false e) ∙ again (stamp_stepped r k x n b u e ∙ s)
 
 -- nor of one with another stamp that is noted
-pub back_noted : (count : ℕ) (es rest : List Scope) (r : Registers) (k : Key) (x : Cell) (o : Option Cell) (cs : List (Replaced Cell)) → o ≡ get r.cells k → (stamp_at r.cells k ≡ count → ⊥) → Agree r (es ++ rest) → AreFresh count r es cs → back (put_cell r k x) es (replaced k o ∷ cs) ≡ back r es cs
+pub back_noted : (count : ℕ) (es rest : List Scope) (r : Registers) (k : Key) (x : Cell) (o : Option Cell) (cs : List (Replacement Cell)) → o ≡ get r.cells k → (stamp_at r.cells k ≡ count → ⊥) → Agree r (es ++ rest) → AreFresh count r es cs → back (put_cell r k x) es (replaced k o ∷ cs) ≡ back r es cs
 back_noted count [] rest r k x o cs is other a h =
     ap (λ c. record r { cells = undone cs c }) (ap (put_back (put r.cells k (Some x)) k) is ∙ undo_put r.cells k x)
 back_noted count (Opened w ∷ es) rest r k x o cs is other a h = back_noted count es rest (step_back (Opened w) r) k x o cs is other a h

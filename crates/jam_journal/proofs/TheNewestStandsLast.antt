@@ -7,7 +7,7 @@ use Rattle.std.specs.Cmp.Lexicographic.{slice_cmp}
 use Rattle.std.proofs.lemmas.Bool.Decides.{Decides-eqb}
 use Rattle.std.specs.List.{list_any}
 use Rattle.std.proofs.lemmas.List.{length-map, length-reverse, reverse-append}
-use Rattle.jam_journal.specs.declared.past.Replaced.{Replaced}
+use Rattle.jam_journal.specs.declared.past.Replacement.{Replacement}
 use Rattle.jam_journal.specs.declared.registers.Cell.{Cell}
 use Rattle.jam_journal.specs.declared.registers.Registers.{Registers}
 use Rattle.jam_journal.specs.declared.registers.Scope.{Scope}
@@ -30,7 +30,7 @@ layers_length ls = length-map (reverse ls) (λ layer. (reverse layer.entries.ite
 pub layers_push : (ls : List Layer) (l : Layer) → layers_of (ls ++ l ∷ []) ≡ (reverse l.entries.items, reverse l.changes.items) ∷ layers_of ls
 layers_push ls l = ap (each (λ (layer : Layer). (reverse layer.entries.items, reverse layer.changes.items))) (reverse_push ls l)
 
-module _ (older : Layers) (es : List Scope) (cs : List (Replaced Cell)) (q r : Registers) (fs : List Scope) (s : Scope) (e : q ≡ r) (f : fs ≡ es ++ s ∷ []) where
+module _ (older : Layers) (es : List Scope) (cs : List (Replacement Cell)) (q r : Registers) (fs : List Scope) (s : Scope) (e : q ≡ r) (f : fs ≡ es ++ s ∷ []) where
   both : ◌≡◌ {A = Registers × List Scope} (q, reverse fs) (r, s ∷ reverse es)
   both = λ i. (e i, (ap reverse f ∙ reverse_push es s) i)
 
@@ -43,8 +43,8 @@ module _ (older : Layers) (es : List Scope) (cs : List (Replaced Cell)) (q r : R
 
 -- ---- setting
 
-module _ (older : Layers) (r : Registers) (es : List Scope) (cs ds : List (Replaced Cell)) (h : AllKept r es (reverse cs) older) (name : Text) (x : Cell) (q : Registers) (e : q ≡ put_cell r (r.owner, name) x) (s : x.stamp ≡ length older) where
-  moved : (t : Bool) → ds ≡ cond t cs (cs ++ replaced (r.owner, name) (map.get r.cells (r.owner, name)) ∷ []) → ◌≡◌ {A = Registers × List (Replaced Cell)} (q, reverse ds) (put_cell r (r.owner, name) x, cond t (reverse cs) (replaced (r.owner, name) (map.get r.cells (r.owner, name)) ∷ reverse cs))
+module _ (older : Layers) (r : Registers) (es : List Scope) (cs ds : List (Replacement Cell)) (h : AllKept r es (reverse cs) older) (name : Text) (x : Cell) (q : Registers) (e : q ≡ put_cell r (r.owner, name) x) (s : x.stamp ≡ length older) where
+  moved : (t : Bool) → ds ≡ cond t cs (cs ++ replaced (r.owner, name) (map.get r.cells (r.owner, name)) ∷ []) → ◌≡◌ {A = Registers × List (Replacement Cell)} (q, reverse ds) (put_cell r (r.owner, name) x, cond t (reverse cs) (replaced (r.owner, name) (map.get r.cells (r.owner, name)) ∷ reverse cs))
   moved true f = λ i. (e i, ap reverse f i)
   moved false f = λ i. (e i, (ap reverse f ∙ reverse_push cs (replaced (r.owner, name) (map.get r.cells (r.owner, name)))) i)
 
@@ -57,23 +57,23 @@ module _ (older : Layers) (r : Registers) (es : List Scope) (cs ds : List (Repla
       let not_both : true ≡ false = sym one ∙ g in cc
 
   pub set_is_kept : (t : Bool) → t ≡ (stamp_at r.cells (r.owner, name) == x.stamp) → ds ≡ cond t cs (cs ++ replaced (r.owner, name) (map.get r.cells (r.owner, name)) ∷ []) → AllKept q es (reverse ds) older
-  set_is_kept true b f = subst (λ (p : Registers × List (Replaced Cell)). AllKept p.0 es p.1 older) (sym (moved true f)) (set_kept older r es (reverse cs) h name x s (is_stamp true b refl))
-  set_is_kept false b f = subst (λ (p : Registers × List (Replaced Cell)). AllKept p.0 es p.1 older) (sym (moved false f)) (note_kept older r es (reverse cs) h name x s (no_stamp false b refl))
+  set_is_kept true b f = subst (λ (p : Registers × List (Replacement Cell)). AllKept p.0 es p.1 older) (sym (moved true f)) (set_kept older r es (reverse cs) h name x s (is_stamp true b refl))
+  set_is_kept false b f = subst (λ (p : Registers × List (Replacement Cell)). AllKept p.0 es p.1 older) (sym (moved false f)) (note_kept older r es (reverse cs) h name x s (no_stamp false b refl))
 
   pub set_is_seen : (t : Bool) → t ≡ (stamp_at r.cells (r.owner, name) == x.stamp) → ds ≡ cond t cs (cs ++ replaced (r.owner, name) (map.get r.cells (r.owner, name)) ∷ []) → scopes_by q es (reverse ds) older ≡ changed (assign name x.value) (scopes_by r es (reverse cs) older)
-  set_is_seen true b f = ap (λ (p : Registers × List (Replaced Cell)). scopes_by p.0 es p.1 older) (moved true f) ∙ set_seen older r es (reverse cs) h name x (is_stamp true b refl)
-  set_is_seen false b f = ap (λ (p : Registers × List (Replaced Cell)). scopes_by p.0 es p.1 older) (moved false f) ∙ note_seen older r es (reverse cs) h name x (no_stamp false b refl)
+  set_is_seen true b f = ap (λ (p : Registers × List (Replacement Cell)). scopes_by p.0 es p.1 older) (moved true f) ∙ set_seen older r es (reverse cs) h name x (is_stamp true b refl)
+  set_is_seen false b f = ap (λ (p : Registers × List (Replacement Cell)). scopes_by p.0 es p.1 older) (moved false f) ∙ note_seen older r es (reverse cs) h name x (no_stamp false b refl)
 
   pub append_is_seen : (texts : Value) → x.value ≡ value_at r.cells (r.owner, name) ++ texts → (t : Bool) → t ≡ (stamp_at r.cells (r.owner, name) == x.stamp) → ds ≡ cond t cs (cs ++ replaced (r.owner, name) (map.get r.cells (r.owner, name)) ∷ []) → scopes_by q es (reverse ds) older ≡ changed (append name texts) (scopes_by r es (reverse cs) older)
-  append_is_seen texts v true b f = ap (λ (p : Registers × List (Replaced Cell)). scopes_by p.0 es p.1 older) (moved true f) ∙ append_seen older r es (reverse cs) h name texts x v (is_stamp true b refl)
-  append_is_seen texts v false b f = ap (λ (p : Registers × List (Replaced Cell)). scopes_by p.0 es p.1 older) (moved false f) ∙ note_append_seen older r es (reverse cs) h name texts x v (no_stamp false b refl)
+  append_is_seen texts v true b f = ap (λ (p : Registers × List (Replacement Cell)). scopes_by p.0 es p.1 older) (moved true f) ∙ append_seen older r es (reverse cs) h name texts x v (is_stamp true b refl)
+  append_is_seen texts v false b f = ap (λ (p : Registers × List (Replacement Cell)). scopes_by p.0 es p.1 older) (moved false f) ∙ note_append_seen older r es (reverse cs) h name texts x v (no_stamp false b refl)
 
 -- ---- marking
 
-pub mark_is_kept : (older : Layers) (r : Registers) (es : List Scope) (cs : List (Replaced Cell)) → AllKept r es cs older → (fs : List Scope) (ds : List (Replaced Cell)) (ls : Layers) → fs ≡ [] → ds ≡ [] → ls ≡ (es, cs) ∷ older → AllKept r fs ds ls
+pub mark_is_kept : (older : Layers) (r : Registers) (es : List Scope) (cs : List (Replacement Cell)) → AllKept r es cs older → (fs : List Scope) (ds : List (Replacement Cell)) (ls : Layers) → fs ≡ [] → ds ≡ [] → ls ≡ (es, cs) ∷ older → AllKept r fs ds ls
 mark_is_kept older r es cs h fs ds ls e f g =
-    let all : ◌≡◌ {A = List Scope × (List (Replaced Cell) × Layers)} (fs, (ds, ls)) ([], ([], (es, cs) ∷ older)) = λ i. (e i, (f i, g i)) in
-    subst (λ (p : List Scope × (List (Replaced Cell) × Layers)). AllKept r p.0 p.1.0 p.1.1) (sym all) (mark_kept older r es cs h)
+    let all : ◌≡◌ {A = List Scope × (List (Replacement Cell) × Layers)} (fs, (ds, ls)) ([], ([], (es, cs) ∷ older)) = λ i. (e i, (f i, g i)) in
+    subst (λ (p : List Scope × (List (Replacement Cell) × Layers)). AllKept r p.0 p.1.0 p.1.1) (sym all) (mark_kept older r es cs h)
 
 -- ---- frames
 
@@ -87,7 +87,7 @@ more : (a b c m n : ℕ) → n ≡ a + b → m ≡ b → m < n → 0 < a
 more a b c m n e f g = omega arith
 
 -- the newest frame is newer than the newest mark
-pub may_leave : (older : Layers) (r : Registers) (es : List Scope) (cs : List (Replaced Cell)) → frames_at_mark (scopes_by r es cs older).1 < length (scopes_by r es cs older).0.frames → 0 < opened es
+pub may_leave : (older : Layers) (r : Registers) (es : List Scope) (cs : List (Replacement Cell)) → frames_at_mark (scopes_by r es cs older).1 < length (scopes_by r es cs older).0.frames → 0 < opened es
 may_leave [] r es cs h =
     more (opened es) 0 0 0 (length (frames_by r (es ++ []))) (count_is (es ++ []) r ∙ opened_append es []) refl h
 may_leave (l ∷ ls) r es cs h =
@@ -109,15 +109,15 @@ first_value cells e = same _ _ (λ q.
     get_values_of cells q ∙ ap (λ m. option_map (λ (c : Cell). c.value) (map.get m q)) e
     ∙ ap (option_map (λ (c : Cell). c.value)) (map.get-empty key_cmp q) ∙ sym (map.get-empty key_cmp q))
 
-module _ (r : Registers) (cells : r.cells ≡ map.empty) (innermost : r.innermost ≡ map.empty) (owner : r.owner ≡ []) (caller : r.caller ≡ []) (es : List Scope) (cs : List (Replaced Cell)) (ls : Layers) (e : es ≡ []) (f : cs ≡ []) (g : ls ≡ []) where
-  no_entry : ◌≡◌ {A = List Scope × (List (Replaced Cell) × Layers)} (es, (cs, ls)) ([], ([], []))
+module _ (r : Registers) (cells : r.cells ≡ map.empty) (innermost : r.innermost ≡ map.empty) (owner : r.owner ≡ []) (caller : r.caller ≡ []) (es : List Scope) (cs : List (Replacement Cell)) (ls : Layers) (e : es ≡ []) (f : cs ≡ []) (g : ls ≡ []) where
+  no_entry : ◌≡◌ {A = List Scope × (List (Replacement Cell) × Layers)} (es, (cs, ls)) ([], ([], []))
   no_entry = λ i. (e i, (f i, g i))
 
   first_stamp : (key : Key) → stamp_at r.cells key ≡ 0
   first_stamp key = ap (λ m. stamp_of (map.get m key)) cells ∙ ap stamp_of (map.get-empty key_cmp key)
 
   pub first_is_kept : AllKept r es cs ls
-  first_is_kept = subst (λ (p : List Scope × (List (Replaced Cell) × Layers)). AllKept r p.0 p.1.0 p.1.1) (sym no_entry)
+  first_is_kept = subst (λ (p : List Scope × (List (Replacement Cell) × Layers)). AllKept r p.0 p.1.0 p.1.1) (sym no_entry)
       (record {
         agree = (owner, caller, λ name. ap (λ m. map.get m name) innermost ∙ map.get-empty (slice_cmp nat_cmp) name);
         low = λ key. subst (λ n. n ≤ 0) (sym (first_stamp key)) (omega arith);
@@ -126,11 +126,11 @@ module _ (r : Registers) (cells : r.cells ≡ map.empty) (innermost : r.innermos
 
   pub first_is_seen : scopes_by r es cs ls ≡ (first_scopes, [])
   first_is_seen =
-      ap (λ (p : List Scope × (List (Replaced Cell) × Layers)). scopes_by r p.0 p.1.0 p.1.1) no_entry
+      ap (λ (p : List Scope × (List (Replacement Cell) × Layers)). scopes_by r p.0 p.1.0 p.1.1) no_entry
       ∙ ap (λ v. (record { frames = []; variables = v }, [])) (first_value r.cells cells)
 
 -- there are as many marks as layers
-pub marked_length : (older : Layers) (r : Registers) (es : List Scope) (cs : List (Replaced Cell)) → length (scopes_by r es cs older).1 ≡ length older
+pub marked_length : (older : Layers) (r : Registers) (es : List Scope) (cs : List (Replacement Cell)) → length (scopes_by r es cs older).1 ≡ length older
 marked_length [] r es cs = refl
 marked_length (l ∷ ls) r es cs = ap suc (marked_length ls (back r es cs) l.0 l.1)
 
@@ -160,19 +160,19 @@ opened_reverse (e ∷ es) =
 less : (a b m n : ℕ) → n ≡ a + b → m ≡ b → 0 < a → m < n
 less a b m n e f g = omega arith
 
-newer : (older : Layers) (r : Registers) (es : List Scope) (cs : List (Replaced Cell)) → 0 < opened es → frames_at_mark (scopes_by r es cs older).1 < length (scopes_by r es cs older).0.frames
+newer : (older : Layers) (r : Registers) (es : List Scope) (cs : List (Replacement Cell)) → 0 < opened es → frames_at_mark (scopes_by r es cs older).1 < length (scopes_by r es cs older).0.frames
 newer [] r es cs h = less (opened es) 0 0 (length (frames_by r (es ++ []))) (count_is (es ++ []) r ∙ opened_append es []) refl h
 newer (l ∷ ls) r es cs h =
     less (opened es) (opened (entries_of (l ∷ ls))) (length (frames_by (back r es cs) (entries_of (l ∷ ls)))) (length (frames_by r (es ++ entries_of (l ∷ ls))))
     (count_is (es ++ entries_of (l ∷ ls)) r ∙ opened_append es (entries_of (l ∷ ls))) (count_is (entries_of (l ∷ ls)) (back r es cs)) h
 
 -- the test for it
-pub may_leave_is : (older : Layers) (r : Registers) (es : List Scope) (cs : List (Replaced Cell)) (b : Bool) → b ≡ list_any opens es → IsTrue b ↔ (frames_at_mark (scopes_by r (reverse es) cs older).1 < length (scopes_by r (reverse es) cs older).0.frames)
+pub may_leave_is : (older : Layers) (r : Registers) (es : List Scope) (cs : List (Replacement Cell)) (b : Bool) → b ≡ list_any opens es → IsTrue b ↔ (frames_at_mark (scopes_by r (reverse es) cs older).1 < length (scopes_by r (reverse es) cs older).0.frames)
 may_leave_is older r es cs b e = (
   (λ h. newer older r (reverse es) cs (subst (λ n. 0 < n) (sym (opened_reverse es)) (any_opened es (sym e ∙ h)))),
   (λ h. e ∙ opened_any es (subst (λ n. 0 < n) (opened_reverse es) (may_leave older r (reverse es) cs h))),
 )
 
 -- a frame that was opened last is newer than the newest mark
-pub opened_newer : (older : Layers) (r : Registers) (es fs : List Scope) (cs : List (Replaced Cell)) (s : Scope) → fs ≡ es ++ s ∷ [] → 0 < opened (s ∷ reverse es) → frames_at_mark (scopes_by r (reverse fs) cs older).1 < length (scopes_by r (reverse fs) cs older).0.frames
+pub opened_newer : (older : Layers) (r : Registers) (es fs : List Scope) (cs : List (Replacement Cell)) (s : Scope) → fs ≡ es ++ s ∷ [] → 0 < opened (s ∷ reverse es) → frames_at_mark (scopes_by r (reverse fs) cs older).1 < length (scopes_by r (reverse fs) cs older).0.frames
 opened_newer older r es fs cs s f h = subst (λ (gs : List Scope). frames_at_mark (scopes_by r gs cs older).1 < length (scopes_by r gs cs older).0.frames) (sym (ap reverse f ∙ reverse_push es s)) (newer older r (s ∷ reverse es) cs h)

@@ -11,7 +11,7 @@
 
 pub mod Tables
 pub mod Slots
-pub mod Held
+pub mod SharedTexts
 pub mod Marks
 pub mod Pasts
 pub mod Scopes

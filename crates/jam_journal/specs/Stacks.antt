@@ -4,7 +4,7 @@ use Rattle.std.specs.List.{list_any, filter}
 use Rattle.std.specs.Ordering.{eq_by_cmp}
 use Rattle.std.specs.Str.{bytes_eq}
 use Rattle.std.specs.FinMap as map
-use Rattle.jam_journal.specs.declared.past.Replaced.{Replaced}
+use Rattle.jam_journal.specs.declared.past.Replacement.{Replacement}
 use Rattle.jam_journal.specs.declared.registers.Cell.{Cell}
 use Rattle.jam_journal.specs.declared.registers.Registers.{Registers}
 use Rattle.jam_journal.specs.declared.registers.Scope.{Scope}
@@ -51,7 +51,7 @@ abbrev pub grown : Registers → Text → Value → ℕ → Cell
 grown r name texts stamp = record { value = value_at r.cells (r.owner, name) ++ texts; stamp = stamp }
 
 -- what was replaced since a mark, when a name of the present module gets another cell, which is noted unless it is fresh
-abbrev pub noted_unless : Bool → Registers → Text → List (Replaced Cell) → List (Replaced Cell)
+abbrev pub noted_unless : Bool → Registers → Text → List (Replacement Cell) → List (Replacement Cell)
 noted_unless is_fresh r name changes = if is_fresh then changes else changes ++ noted_at r.cells (r.owner, name) ∷ []
 
 -- what is found by a name
@@ -150,22 +150,22 @@ seen r entries = record { frames = frames_by r entries; variables = values_of (c
 
 -- the entries since each mark, and what was replaced since it, the newest mark's first, and then those before all marks
 abbrev pub Layers : Type 0
-Layers = List (List Scope × List (Replaced Cell))
+Layers = List (List Scope × List (Replacement Cell))
 
 abbrev pub entries_of : Layers → List Scope
 entries_of [] = []
 entries_of (layer ∷ layers) = layer.0 ++ entries_of layers
 
 -- back at a mark: the frames and bindings since then go, and then what was replaced stands again
-abbrev pub back : Registers → List Scope → List (Replaced Cell) → Registers
+abbrev pub back : Registers → List Scope → List (Replacement Cell) → Registers
 back r entries changes = record (closed entries r) { cells = undone changes (closed entries r).cells }
 
-abbrev pub marked_by : Registers → List Scope → List (Replaced Cell) → Layers → List Scopes
+abbrev pub marked_by : Registers → List Scope → List (Replacement Cell) → Layers → List Scopes
 marked_by r entries changes [] = []
 marked_by r entries changes (layer ∷ layers) =
     seen (back r entries changes) (layer.0 ++ entries_of layers) ∷ marked_by (back r entries changes) layer.0 layer.1 layers
 
-abbrev pub scopes_by : Registers → List Scope → List (Replaced Cell) → Layers → Marked Scopes
+abbrev pub scopes_by : Registers → List Scope → List (Replacement Cell) → Layers → Marked Scopes
 scopes_by r entries changes older = (seen r (entries ++ entries_of older), marked_by r entries changes older)
 
 -- a binding has a cell, stands in a frame, and is noted if it is that of an argument list
@@ -189,29 +189,29 @@ abbrev pub StayLow : ℕ → Registers → List Scope → Type 0
 StayLow count r [] = AreLow count r
 StayLow count r (entry ∷ entries) = AreLow count r × StayLow count (step_back entry r) entries
 
-abbrev pub is_noted : List (Replaced Cell) → Key → Bool
+abbrev pub is_noted : List (Replacement Cell) → Key → Bool
 is_noted [] key = false
 is_noted (change ∷ changes) key = eq_by_cmp key_cmp key (change.first, change.second) || is_noted changes key
 
 -- a cell that has the number of marks as its stamp was bound since the newest one, or what it replaced was noted
-abbrev pub AreFresh : ℕ → Registers → List Scope → List (Replaced Cell) → Type 0
+abbrev pub AreFresh : ℕ → Registers → List Scope → List (Replacement Cell) → Type 0
 AreFresh count r [] changes = (key : Key) → stamp_at r.cells key ≡ count → is_noted changes key ≡ true
 AreFresh count r (Opened owner ∷ entries) changes = AreFresh count (step_back (Opened owner) r) entries changes
 AreFresh count r (Called owner caller ∷ entries) changes = AreFresh count (step_back (Called owner caller) r) entries changes
 AreFresh count r (Bound name before outer ∷ entries) changes =
     (stamp_at r.cells (r.owner, name) ≡ count) × AreFresh count (step_back (Bound name before outer) r) entries changes
 
-abbrev pub FreshSince : Layers → Registers → List Scope → List (Replaced Cell) → Type 0
+abbrev pub FreshSince : Layers → Registers → List Scope → List (Replacement Cell) → Type 0
 FreshSince [] r entries changes = Unit {0}
 FreshSince (layer ∷ layers) r entries changes = AreFresh (suc (length layers)) r entries changes
 
-pub record IsKept (r : Registers) (entries : List Scope) (changes : List (Replaced Cell)) (older : Layers) : Type 0 where
+pub record IsKept (r : Registers) (entries : List Scope) (changes : List (Replacement Cell)) (older : Layers) : Type 0 where
   pub agree : Agree r (entries ++ entries_of older)
   pub low : StayLow (length older) r entries
   pub fresh : FreshSince older r entries changes
 
 -- the same at each mark
-abbrev pub AllKept : Registers → List Scope → List (Replaced Cell) → Layers → Type 0
+abbrev pub AllKept : Registers → List Scope → List (Replacement Cell) → Layers → Type 0
 AllKept r entries changes [] = IsKept r entries changes []
 AllKept r entries changes (layer ∷ layers) =
     IsKept r entries changes (layer ∷ layers) × AllKept (back r entries changes) layer.0 layer.1 layers

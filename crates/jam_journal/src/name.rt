@@ -1,6 +1,6 @@
 //! A text that several may hold.
 ghost use Rattle.std.specs.Prelude.{◌≡◌, IfOk};
-ghost use Rattle.jam_journal.specs.Held.{held_text};
+ghost use Rattle.jam_journal.specs.SharedTexts.{held_text};
 
 use crate::slots::{fixed_name, slot_of};
 use b2_base::fault::OutOfMemory;
@@ -11,7 +11,7 @@ use std::rc::Rc;
 
 /// How a text is held.
 #[derive(Drop)]
-enum Held {
+enum Holding {
     /// As that of a place for the names of argument lists, or as the empty text.
     Fixed(usize),
     /// As a text with no zero byte, which takes no memory of its own where it is short.
@@ -22,7 +22,7 @@ enum Held {
 
 /// A text, seen as its bytes. The names of argument lists and short texts take no memory, other texts are shared.
 pub struct Name {
-    held: Held,
+    held: Holding,
 }
 
 /// By hand, so that dropping one is one call.
@@ -35,7 +35,7 @@ impl Drop for Name {
 
 impl Model for Name {
     ghost use Rattle.std.specs.Prelude.{ℕ, List};
-    ghost use Rattle.jam_journal.specs.Held.{held_text};
+    ghost use Rattle.jam_journal.specs.SharedTexts.{held_text};
 
     ghost Value = { List ℕ };
 
@@ -43,14 +43,14 @@ impl Model for Name {
 }
 
 /// A text of its own, which may be shared.
-fn shared(alloc: Global, text: &str) -> Result<Held, OutOfMemory>
+fn shared(alloc: Global, text: &str) -> Result<Holding, OutOfMemory>
     ensures { IfOk result (λ made. held_text made ≡ text.now) }
 {
     if has_no_zero(text) {
-        return Ok(Held::Plain(Text::new(alloc, text)?));
+        return Ok(Holding::Plain(Text::new(alloc, text)?));
     }
     let text = String::from_str(alloc, text)?;
-    Ok(Held::Shared(Rc::new(alloc, text)?))
+    Ok(Holding::Shared(Rc::new(alloc, text)?))
 }
 
 impl Name {
@@ -59,8 +59,8 @@ impl Name {
         ensures { IfOk result (λ made. made ≡ text.now) }
     {
         let held = match slot_of(text) {
-            Some(place) => Held::Fixed(place),
-            None if text.is_empty() => Held::Fixed(14),
+            Some(place) => Holding::Fixed(place),
+            None if text.is_empty() => Holding::Fixed(14),
             None => shared(alloc, text)?,
         };
         Ok(Name { held })
@@ -71,9 +71,9 @@ impl Name {
         ensures { IfOk result (λ made. made ≡ self.now) }
     {
         let held = match &self.held {
-            Held::Fixed(place) => Held::Fixed(*place),
-            Held::Plain(text) => Held::Plain(text.copy()?),
-            Held::Shared(text) => Held::Shared(text.clone()?),
+            Holding::Fixed(place) => Holding::Fixed(*place),
+            Holding::Plain(text) => Holding::Plain(text.copy()?),
+            Holding::Shared(text) => Holding::Shared(text.clone()?),
         };
         Ok(Name { held })
     }
@@ -83,9 +83,9 @@ impl Name {
         ensures { result.now ≡ self.now }
     {
         match &self.held {
-            Held::Fixed(place) => fixed_name(*place),
-            Held::Plain(text) => text.as_str(),
-            Held::Shared(text) => text.as_str(),
+            Holding::Fixed(place) => fixed_name(*place),
+            Holding::Plain(text) => text.as_str(),
+            Holding::Shared(text) => text.as_str(),
         }
     }
 }

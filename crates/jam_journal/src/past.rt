@@ -14,7 +14,7 @@ pub mod change;
 
 /// What a change replaced at a pair of texts.
 #[derive(Drop)]
-pub struct Replaced<V: Drop> {
+pub struct Replacement<V: Drop> {
     /// The first text of the pair.
     pub first: Name,
     /// The second one.
@@ -29,9 +29,9 @@ pub struct Past<V: Drop> {
     alloc: Global,
     table: Table<V>,
     /// What was replaced since the newest mark, the newest last.
-    changes: Vec<Replaced<V>>,
+    changes: Vec<Replacement<V>>,
     /// What had been replaced when each mark was made, since the mark before it, the newest last.
-    older: Vec<Vec<Replaced<V>>>,
+    older: Vec<Vec<Replacement<V>>>,
 }
 
 impl<V: Drop> Drop for Past<V> {

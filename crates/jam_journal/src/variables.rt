@@ -1,7 +1,7 @@
 //! Variables in modules and frames, and their past.
 use crate::name::Name;
 use crate::names::Names;
-use crate::past::{Replaced, change};
+use crate::past::{Replacement, change};
 use crate::registers::{Cell, Registers, Scope, closing, growing, looking, opening, unset};
 use crate::sized_list::SizedList;
 use crate::table::Table;
@@ -18,7 +18,7 @@ mod layers;
 #[derive(Drop)]
 struct Layer {
     entries: Vec<Scope>,
-    changes: Vec<Replaced<Cell>>,
+    changes: Vec<Replacement<Cell>>,
 }
 
 /// Variables in modules and frames, and what they were at marks. The present value of each name in each module is kept in one
@@ -31,7 +31,7 @@ pub struct Variables {
     /// The frames and bindings since the newest mark, the newest last.
     entries: Vec<Scope>,
     /// What assignments replaced since the newest mark, the newest last.
-    changes: Vec<Replaced<Cell>>,
+    changes: Vec<Replacement<Cell>>,
     /// The same before each mark, the newest last.
     older: Vec<Layer>,
 }

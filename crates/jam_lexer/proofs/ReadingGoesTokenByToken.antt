@@ -6,7 +6,7 @@ use Rattle.std.specs.Str.{IsUtf8}
 use Rattle.b2_base.specs.declared.token.TokenKind.TheVariants as kinds
 use Rattle.std.proofs.lemmas.Str.{IsCharBoundary-after_ascii, IsCharBoundary-start}
 use Rattle.b2_base.specs.declared.token.Token.{Token}
-use Rattle.jam_lexer.specs.declared.reading.Place.{Place}
+use Rattle.jam_lexer.specs.declared.reading.LexPlace.{LexPlace}
 use Rattle.jam_lexer.specs.Signs.{line_of}
 use Rattle.b2_base.specs.Bytes.{is_white}
 use Rattle.jam_lexer.specs.Tokens.{NextWord, NextBody, NextBrace, place_after, awaits_brace, is_the_key, is_body, IsNextToken, IsWordToken, IsBodyToken, Follows, Stand, IsEnd}
@@ -48,7 +48,7 @@ word_goes bytes from start end begins word = go (cases_lt start end) word.ends
         absurd (true≢false (sym white.0 ∙ ap (λ i. is_white (get_or bytes i 0)) same ∙ begins.no_white))
 
 -- a word more has been read
-pub word_read : (bytes : List ℕ) (tokens : List Token) (place : Place) (start end line after : ℕ) (opens : Bool) →
+pub word_read : (bytes : List ℕ) (tokens : List Token) (place : LexPlace) (start end line after : ℕ) (opens : Bool) →
     HasRead bytes NextWord tokens place → BeginsWord bytes place.at start → IsWord bytes start end → line ≡ line_of
     bytes start → after ≡ line_of bytes end → opens ≡ (is_the_key (codes "{") (the_word bytes start end line) &&
     place.awaits) → HasRead bytes (cond opens NextBody NextWord) (tokens ++ the_word bytes start end line ∷ [])
@@ -76,7 +76,7 @@ word_read bytes tokens place start end line after opens has begins word line_is 
     }
 
 -- a Key `{` that opens a body
-pub word_opens : (bytes : List ℕ) (tokens : List Token) (place : Place) (start end line after : ℕ) → HasRead bytes
+pub word_opens : (bytes : List ℕ) (tokens : List Token) (place : LexPlace) (start end line after : ℕ) → HasRead bytes
     NextWord tokens place → BeginsWord bytes place.at start → IsWord bytes start end → line ≡ line_of bytes start →
     after ≡ line_of bytes end → true ≡ (is_the_key (codes "{") (the_word bytes start end line) && place.awaits) →
     HasOpened bytes (tokens ++ the_word bytes start end line ∷ []) (record {
@@ -99,7 +99,7 @@ abbrev pub the_brace : ℕ → ℕ → Token
 the_brace at line = record { kind = kinds.Key; text = codes "}"; line = line; start = at; end = at + 1 }
 
 -- a body and its brace more have been read
-pub body_read : (bytes : List ℕ) (tokens : List Token) (place : Place) (end line : ℕ) → IsUtf8 bytes → HasRead bytes NextBody tokens place → IsBody bytes place.at end → line ≡ line_of bytes end → HasRead bytes NextWord ((tokens ++ the_body bytes place.at end place.line ∷ []) ++ the_brace end line ∷ []) (record { at = end + 1; line = line; awaits = place.awaits })
+pub body_read : (bytes : List ℕ) (tokens : List Token) (place : LexPlace) (end line : ℕ) → IsUtf8 bytes → HasRead bytes NextBody tokens place → IsBody bytes place.at end → line ≡ line_of bytes end → HasRead bytes NextWord ((tokens ++ the_body bytes place.at end place.line ∷ []) ++ the_brace end line ∷ []) (record { at = end + 1; line = line; awaits = place.awaits })
 body_read bytes tokens place end line utf8 has body line_is =
     let first : Token = the_body bytes place.at end place.line in
     let is_body_token : IsBodyToken bytes (place_after has.read) first = record { begins = sym has.place_is; body = body; has_text = refl; has_kind = refl; has_line = has.line_is } in
@@ -121,16 +121,16 @@ body_read bytes tokens place end line utf8 has body line_is =
 pub nothing_read : (bytes : List ℕ) → IsUtf8 bytes → HasRead bytes NextWord [] (record { at = 0; line = 1; awaits = false })
 nothing_read bytes utf8 = record { read = []; stand = refl; next_is = refl; place_is = refl; awaits_is = refl; line_is = refl; within = omega arith; boundary = IsCharBoundary-start bytes utf8 }
 
-pub all_read : (bytes : List ℕ) (tokens : List Token) (place : Place) → HasRead bytes NextWord tokens place → IsGap bytes place.at (length bytes) → Stand bytes (IsEnd bytes) [] tokens
+pub all_read : (bytes : List ℕ) (tokens : List Token) (place : LexPlace) → HasRead bytes NextWord tokens place → IsGap bytes place.at (length bytes) → Stand bytes (IsEnd bytes) [] tokens
 all_read bytes tokens place has gap = stand_then bytes (IsEnd bytes) has.read (record { outside = has.next_is; gap = subst (λ p. IsGap bytes p (length bytes)) (sym has.place_is) gap }) [] tokens has.stand
 
-pub meets_open_quote : (bytes : List ℕ) (tokens : List Token) (place : Place) (start line : ℕ) → HasRead bytes NextWord tokens place → BeginsWord bytes place.at start → IsOpenWord bytes start → line ≡ line_of bytes start → Stand bytes (MeetsOpenQuote bytes line) [] tokens
+pub meets_open_quote : (bytes : List ℕ) (tokens : List Token) (place : LexPlace) (start line : ℕ) → HasRead bytes NextWord tokens place → BeginsWord bytes place.at start → IsOpenWord bytes start → line ≡ line_of bytes start → Stand bytes (MeetsOpenQuote bytes line) [] tokens
 meets_open_quote bytes tokens place start line has begins unclosed on_line =
     stand_then bytes (MeetsOpenQuote bytes line) has.read
     (record { start = start; outside = has.next_is; begins = subst (λ p. BeginsWord bytes p start) (sym has.place_is) begins; unclosed = unclosed; on_line = on_line })
     [] tokens has.stand
 
-pub meets_open_actions : (bytes : List ℕ) (tokens : List Token) (place : Place) (line : ℕ) → HasOpened bytes tokens place line → IsMatched bytes place.at (length bytes) → Stand bytes (MeetsOpenActions bytes line) [] tokens
+pub meets_open_actions : (bytes : List ℕ) (tokens : List Token) (place : LexPlace) (line : ℕ) → HasOpened bytes tokens place line → IsMatched bytes place.at (length bytes) → Stand bytes (MeetsOpenActions bytes line) [] tokens
 meets_open_actions bytes tokens place line opened matched =
     let has : HasRead bytes NextBody tokens place = opened.has_read in
     stand_then bytes (MeetsOpenActions bytes line) has.read

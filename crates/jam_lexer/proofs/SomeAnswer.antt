@@ -8,7 +8,7 @@ use Rattle.b2_base.specs.Bytes.{HasNoZero, is_white}
 use Rattle.b2_base.specs.declared.token.Token.{Token}
 use Rattle.jam_lexer.specs.declared.fault.LexFault.{LexFault}
 use Rattle.jam_lexer.specs.declared.fault.LexFault.TheVariants as faults
-use Rattle.jam_lexer.specs.declared.reading.Place.{Place}
+use Rattle.jam_lexer.specs.declared.reading.LexPlace.{LexPlace}
 use Rattle.jam_lexer.specs.Signs.{line_of}
 use Rattle.jam_lexer.specs.Gap.{IsGap, IsInComment, BeginsWord}
 use Rattle.jam_lexer.specs.Word.{IsWord, IsOpenWord}
@@ -176,11 +176,11 @@ find_bad bytes = go (find_longest bytes (length bytes))
 abbrev Answered : List ℕ → Type 0
 Answered bytes = (answer : Result (List Token) LexFault) × IsAnswer bytes answer
 
-find_answer : (fuel : ℕ) (bytes : List ℕ) (tokens : List Token) (place : Place) → IsText bytes → length bytes ≤ place.at + fuel → HasRead bytes NextWord tokens place → Answered bytes
+find_answer : (fuel : ℕ) (bytes : List ℕ) (tokens : List Token) (place : LexPlace) → IsText bytes → length bytes ≤ place.at + fuel → HasRead bytes NextWord tokens place → Answered bytes
 find_answer zero bytes tokens place text enough has = let end : length bytes ≡ place.at = omega (arith, has.within) in (Ok tokens, (text, all_read bytes tokens place has (subst (λ to. IsGap bytes place.at to) (sym end) (gap_of_nothing bytes place.at))))
 find_answer (suc fuel) bytes tokens place text enough has = word (find_word (length bytes) bytes place.at place.at (omega arith) (omega arith) has.within (gap_of_nothing bytes place.at) (comment_of_nothing bytes place.at)) (find_answer fuel bytes)
   where
-    word : WordOrEnd bytes place.at → ((more : List Token) (to : Place) → IsText bytes → length bytes ≤ to.at + fuel → HasRead bytes NextWord more to → Answered bytes) → Answered bytes
+    word : WordOrEnd bytes place.at → ((more : List Token) (to : LexPlace) → IsText bytes → length bytes ≤ to.at + fuel → HasRead bytes NextWord more to → Answered bytes) → Answered bytes
     word (inr gap) rest = (Ok tokens, (text, all_read bytes tokens place has gap))
     word (inl (start, begins)) rest = after (find_end (length bytes) bytes start start false (omega arith) (reading_start bytes start (omega (arith, begins.within))))
       where

@@ -2,7 +2,7 @@
 use Rattle.std.specs.Prelude.{◌≡◌, ℕ, ◌≤◌, List, [], length}
 use Rattle.std.specs.Str.{IsCharBoundary}
 use Rattle.b2_base.specs.declared.token.Token.{Token}
-use Rattle.jam_lexer.specs.declared.reading.Place.{Place}
+use Rattle.jam_lexer.specs.declared.reading.LexPlace.{LexPlace}
 use Rattle.jam_lexer.specs.declared.fault.LexFault.{LexFault}
 use Rattle.jam_lexer.specs.declared.fault.LexFault.TheVariants as faults
 use Rattle.jam_lexer.specs.Signs.{line_of}
@@ -10,7 +10,7 @@ use Rattle.jam_lexer.specs.Tokens.{Next, NextBody, next_after, place_after, awai
 use Rattle.jam_lexer.specs.Answers.{line_of_last, MeetsOpenQuote, MeetsOpenActions}
 
 -- these tokens have been read, up to this place, and this stands next
-pub record HasRead (bytes : List ℕ) (next : Next) (tokens : List Token) (place : Place) : Type 0 where
+pub record HasRead (bytes : List ℕ) (next : Next) (tokens : List Token) (place : LexPlace) : Type 0 where
   pub read : List Token
   pub stand : Stand bytes (λ seen. seen ≡ read) [] tokens
   pub next_is : next_after read ≡ next
@@ -21,7 +21,7 @@ pub record HasRead (bytes : List ℕ) (next : Next) (tokens : List Token) (place
   pub boundary : IsCharBoundary bytes place.at
 
 -- these tokens have been read, the last on this line, and a body stands next
-pub record HasOpened (bytes : List ℕ) (tokens : List Token) (place : Place) (line : ℕ) : Type 0 where
+pub record HasOpened (bytes : List ℕ) (tokens : List Token) (place : LexPlace) (line : ℕ) : Type 0 where
   pub has_read : HasRead bytes NextBody tokens place
   pub last_is : line ≡ line_of_last has_read.read
 

@@ -21,7 +21,7 @@ use std::alloc::Global;
 
 /// A place after a token.
 #[derive(Clone, Copy)]
-pub struct Place {
+pub struct LexPlace {
     pub at: usize,
     /// The line of the place, from 1.
     pub line: u32,
@@ -144,9 +144,9 @@ fn read_body(
     alloc: Global,
     bytes: &[u8],
     tokens: &mut Vec<Token>,
-    place: Place,
+    place: LexPlace,
     brace: u32,
-) -> Result<Place, LexFault>
+) -> Result<LexPlace, LexFault>
     requires small { length bytes.now ≤ 1048576 }
     requires text { IsText bytes.now }
     requires opened { HasOpened bytes.now tokens.old.items place brace }
@@ -162,7 +162,7 @@ fn read_body(
     let close = brace_token(alloc, end, line)?;
     tokens.push(body)?;
     tokens.push(close)?;
-    Ok(Place {
+    Ok(LexPlace {
         at: end + 1,
         line,
         awaits: place.awaits,
@@ -174,9 +174,9 @@ fn read_word(
     alloc: Global,
     bytes: &[u8],
     tokens: &mut Vec<Token>,
-    place: Place,
+    place: LexPlace,
     start: usize,
-) -> Result<Place, LexFault>
+) -> Result<LexPlace, LexFault>
     requires small { length bytes.now ≤ 1048576 }
     requires text { IsText bytes.now }
     requires read { HasRead bytes.now NextWord tokens.old.items place }
@@ -193,7 +193,7 @@ fn read_word(
     let opens = opens_body(&token, place.awaits);
     let awaits = awaits_after(&token, place.awaits);
     tokens.push(token)?;
-    let after = Place {
+    let after = LexPlace {
         at: end,
         line: line_after(bytes, start, line, end),
         awaits,
@@ -213,7 +213,7 @@ pub fn read_text(alloc: Global, bytes: &[u8]) -> Result<Vec<Token>, LexFault>
     ensures err { IfErr result (IsMet bytes.now) }
 {
     let mut tokens = Vec::new(alloc);
-    let mut place = Place {
+    let mut place = LexPlace {
         at: 0,
         line: 1,
         awaits: false,

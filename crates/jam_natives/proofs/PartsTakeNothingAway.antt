@@ -13,7 +13,7 @@ use Rattle.jam_scope.specs.Rules.{Rule}
 use Rattle.jam_scope.specs.Worlds.{World, Worlds}
 use Rattle.jam_scope.specs.Steps.{with_input}
 use Rattle.jam_scope.specs.Changes.{changed, with_rule, import_rule, add_depends}
-use Rattle.jam_eval.specs.NativeCalls.{KeepsFrames, HasMoreInputs, PutsPart}
+use Rattle.jam_meaning.specs.NativeCalls.{KeepsFrames, HasMoreInputs, PutsPart}
 use Rattle.jam_natives.specs.Rows.{add_each, import_each}
 use Rattle.jam_natives.proofs.TakenListsGrowByOne.{next_taken}
 

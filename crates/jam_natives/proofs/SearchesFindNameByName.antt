@@ -11,12 +11,12 @@ use Rattle.b2_host.specs.Disks.{Folder, Disk}
 use Rattle.b2_host.specs.Listings.{IsListed}
 use Rattle.b2_host.specs.Outside.{Outside}
 use Rattle.jam_path.specs.Patterns.{Match}
-use Rattle.jam_eval.specs.Settings.{Sight, IsMatching}
+use Rattle.jam_meaning.specs.Settings.{Sight, IsMatching}
 use Rattle.jam_natives.specs.Sights.{ForMatching, WhereSeen}
 use Rattle.jam_natives.specs.Globs.{path_in, is_output_dir, is_matched, picked, found_in, globbed, found_by, project_globbed}
 use Rattle.jam_natives.specs.Texts.{without_repeats}
 use Rattle.jam_natives.specs.Searches.{picks, finds}
-use Rattle.jam_natives.specs.declared.glob.Search.{Search}
+use Rattle.jam_natives.specs.declared.glob.GlobSearch.{GlobSearch}
 use Rattle.jam_natives.proofs.TakenListsGrowByOne.{next_dropped, appended}
 use Rattle.jam_natives.proofs.StrippingLeavesTheRest.{filter-append}
 use Rattle.jam_natives.proofs.DirectoriesHaveOneListing.{one_listing}
@@ -68,7 +68,7 @@ picked-append matching patterns excluded dir xs ys =
     ∙ filter-append q (map (path_in dir) (filter p xs)) (map (path_in dir) (filter p ys))
 
 -- the files of a directory are found that is no output directory
-pub found_here : (disk : Option Disk) (search : Search) (dir shown : List ℕ) (names now next : List (List ℕ)) → is_output_dir search.roots.now dir ≡ false → IfSome disk (λ d. IsListed d.now dir names)
+pub found_here : (disk : Option Disk) (search : GlobSearch) (dir shown : List ℕ) (names now next : List (List ℕ)) → is_output_dir search.roots.now dir ≡ false → IfSome disk (λ d. IsListed d.now dir names)
     → ForMatching (λ matching. next ≡ now ++ picks matching search shown names) → WhereSeen disk (λ sight. next ≡ now ++ finds sight search dir shown)
 found_here None search dir shown names now next source listed adds = tt
 found_here (Some d) search dir shown names now next source listed adds = λ sight seen here.
@@ -77,7 +77,7 @@ found_here (Some d) search dir shown names now next source listed adds = λ sigh
     ∙ ap (λ l. now ++ l) (sym (cond-false (is_output_dir search.roots.now dir) [] (picked sight.matching search.patterns.now search.excluded.now shown (sight.names dir)) source))
 
 -- none of an output directory is
-pub none_here : (disk : Option Disk) (search : Search) (dir shown : List ℕ) (now : List (List ℕ)) → is_output_dir search.roots.now dir ≡ true → WhereSeen disk (λ sight. now ≡ now ++ finds sight search dir shown)
+pub none_here : (disk : Option Disk) (search : GlobSearch) (dir shown : List ℕ) (now : List (List ℕ)) → is_output_dir search.roots.now dir ≡ true → WhereSeen disk (λ sight. now ≡ now ++ finds sight search dir shown)
 none_here None search dir shown now output = tt
 none_here (Some d) search dir shown now output = λ sight seen here.
     sym (append-nil now) ∙ ap (λ l. now ++ l) (sym (cond-true (is_output_dir search.roots.now dir) [] (picked sight.matching search.patterns.now search.excluded.now shown (sight.names dir)) output))

@@ -10,7 +10,7 @@ use Rattle.std.proofs.lemmas.List.Sums.{fold_more}
 use Rattle.std.proofs.lemmas.Map.Text.{is_eq-slice_cmp}
 use Rattle.jam_journal.specs.Tables.{Names}
 use Rattle.jam_natives.specs.Texts.{add_new}
-use Rattle.jam_natives.specs.Seen.{HasSeen}
+use Rattle.jam_natives.specs.SeenTexts.{HasSeen}
 
 pub seen_none : HasSeen (from_entries []) []
 seen_none text = ap is_some (get-from_entries nat_list_cmp_total [] text)

@@ -7,7 +7,7 @@ use Rattle.b2_base.specs.Below.{is_below}
 use Rattle.jam_path.specs.Names.{dir_of}
 use Rattle.jam_journal.specs.Tables.{Text}
 use Rattle.jam_journal.specs.Scopes.{Value}
-use Rattle.jam_eval.specs.Settings.{Sight}
+use Rattle.jam_meaning.specs.Settings.{Sight}
 use Rattle.jam_natives.specs.Texts.{without_repeats}
 
 -- a name directly in a directory, as a path; in `.` it is the name alone (47 is the slash)

@@ -13,7 +13,7 @@
 
 pub mod Rules
 pub mod Texts
-pub mod Seen
+pub mod SeenTexts
 pub mod Matches
 pub mod Sights
 pub mod Globs
@@ -24,5 +24,5 @@ pub mod OutputDirs
 pub mod Laws
 pub mod Keeping
 pub mod Rows
-pub mod Calls
+pub mod NativeAnswers
 pub mod Seeing

@@ -14,14 +14,14 @@ use Rattle.jam_scope.specs.Rules.{Rule}
 use Rattle.jam_scope.specs.Worlds.{World, Worlds}
 use Rattle.jam_scope.specs.Changes.{changed, module_in, import_rule, add_roots, freeze_roots, add_depends, set_always, set_notfile}
 use Rattle.jam_scope.specs.Names.{is_text, names_in}
-use Rattle.jam_eval.specs.declared.native_answer.NativeStep.{NativeStep}
-use Rattle.jam_eval.specs.declared.native_answer.NativeStep.TheVariants as steps
-use Rattle.jam_eval.specs.Settings.{Told, answers, refuses, of_native, of_arity, Meaning, Sight}
+use Rattle.jam_meaning.specs.declared.native_answer.NativeStep.{NativeStep}
+use Rattle.jam_meaning.specs.declared.native_answer.NativeStep.TheVariants as steps
+use Rattle.jam_meaning.specs.Settings.{Told, answers, refuses, of_native, of_arity, Meaning, Sight}
 use Rattle.jam_natives.specs.declared.decl.Decl.{Decl}
 use Rattle.jam_natives.specs.declared.native.Native.{Native}
 use Rattle.jam_natives.specs.declared.native.Native.TheVariants as natives
-use Rattle.jam_natives.specs.declared.native.Reading.{Reading}
-use Rattle.jam_natives.specs.declared.native.Reading.TheVariants as reads
+use Rattle.jam_natives.specs.declared.native.ReadingRule.{ReadingRule}
+use Rattle.jam_natives.specs.declared.native.ReadingRule.TheVariants as reads
 use Rattle.jam_natives.specs.declared.native.Noting.{Noting}
 use Rattle.jam_natives.specs.declared.native.Noting.TheVariants as notes
 use Rattle.jam_natives.specs.Keeping.{Kept}
@@ -52,7 +52,7 @@ matched (Err pattern) = Err (faults.PatternRefused pattern)
 abbrev pub module_list : Text → Value
 module_list owner = if bytes_eq owner [] then [] else (if is_text owner then owner ∷ [] else [])
 
-abbrev pub read : Reading → List Value → Option Text → World → Result NativeStep NativeFault
+abbrev pub read : ReadingRule → List Value → Option Text → World → Result NativeStep NativeFault
 read reads.Exit lists refused w = Ok (steps.Exit (line_of (list_at 0 lists)))
 read reads.Match lists refused w = matched (matches_of refused (list_at 0 lists) (list_at 1 lists))
 read reads.GetValues lists refused w = Ok (steps.Value (after_start (first_of (list_at 0 lists)) (list_at 1 lists)))

@@ -7,7 +7,7 @@ use Rattle.b2_base.specs.declared.shape.Count.{Count}
 use Rattle.b2_base.specs.declared.shape.Count.TheVariants.{One, AtMostOne, Any, AtLeastOne}
 use Rattle.jam_natives.specs.declared.native.Native.{Native}
 use Rattle.jam_natives.specs.declared.native.Native.TheVariants.{Echo, Reads, Notes, Import, Export, Glob, ProjectGlob}
-use Rattle.jam_natives.specs.declared.native.Reading.TheVariants as reads
+use Rattle.jam_natives.specs.declared.native.ReadingRule.TheVariants as reads
 use Rattle.jam_natives.specs.declared.native.Noting.TheVariants as notes
 
 abbrev pub natives : List (Text × Native)

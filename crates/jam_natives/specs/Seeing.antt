@@ -3,11 +3,11 @@ use Rattle.std.specs.Prelude.{Option, Result}
 use Rattle.b2_host.specs.Outside.{Outside}
 use Rattle.jam_journal.specs.Tables.{Text}
 use Rattle.jam_scope.specs.Worlds.{Worlds}
-use Rattle.jam_eval.specs.declared.native_answer.NativeStep.{NativeStep}
-use Rattle.jam_eval.specs.declared.native_answer.NativeError.{NativeError}
-use Rattle.jam_eval.specs.Settings.{Sight}
+use Rattle.jam_meaning.specs.declared.native_answer.NativeStep.{NativeStep}
+use Rattle.jam_meaning.specs.declared.native_answer.NativeError.{NativeError}
+use Rattle.jam_meaning.specs.Settings.{Sight}
 use Rattle.jam_natives.specs.declared.natives.JamNatives.{JamNatives}
-use Rattle.jam_natives.specs.Calls.{IsAnsweredBy}
+use Rattle.jam_natives.specs.NativeAnswers.{IsAnsweredBy}
 use Rattle.jam_natives.specs.Keeping.{Kept}
 use Rattle.jam_natives.specs.Rows.{Answer}
 

@@ -2,7 +2,7 @@
 use Rattle.std.specs.Prelude.{◌≡◌, Bool, Option, IfSome}
 use Rattle.b2_host.specs.Disks.{Disk}
 use Rattle.jam_journal.specs.Tables.{Text}
-use Rattle.jam_eval.specs.Settings.{Sight, IsSight, IsMatching}
+use Rattle.jam_meaning.specs.Settings.{Sight, IsSight, IsMatching}
 
 -- what holds of the one test that is the matching of patterns
 abbrev pub ForMatching : ((Text → Text → Bool) → Type 0) → Type 0

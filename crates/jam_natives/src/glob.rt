@@ -22,7 +22,7 @@ use std::slice;
 
 /// What is looked for: names that a pattern matches, whose paths no excluding pattern matches, outside the output roots.
 #[derive(Clone, Copy)]
-pub(crate) struct Search<'a> {
+pub(crate) struct GlobSearch<'a> {
     pub patterns: &'a [Text],
     pub excluded: &'a [Text],
     pub roots: &'a [Path],
@@ -69,7 +69,7 @@ fn is_matched(patterns: &[Text], text: &str) -> bool
 fn pick(
     alloc: Global,
     found: &mut TextList,
-    search: &Search<'_>,
+    search: &GlobSearch<'_>,
     dir: &Path,
     name: &Text,
 ) -> Result<(), OutOfMemory>
@@ -90,7 +90,7 @@ fn pick(
 fn pick_all(
     alloc: Global,
     found: &mut TextList,
-    search: &Search<'_>,
+    search: &GlobSearch<'_>,
     dir: &Path,
     names: &[Text],
 ) -> Result<(), OutOfMemory>
@@ -113,7 +113,7 @@ fn is_output_dir(roots: &[Path], dir: &Path) -> bool
 fn add_found<F: Files>(
     alloc: Global,
     found: &mut TextList,
-    search: &Search<'_>,
+    search: &GlobSearch<'_>,
     dir: &Path,
     shown: &Path,
     files: &mut F,
@@ -140,7 +140,7 @@ pub fn glob<F: Files>(
     ensures files { IoLooks (F.outside files.old) (F.outside files.new) result }
     ensures value { WhereSeen (F.outside files.old).disk (λ sight. IfOk result (λ found. found ≡ globbed sight roots.now dirs.now patterns.now)) }
 {
-    let search = Search {
+    let search = GlobSearch {
         patterns,
         excluded: &[],
         roots,
@@ -165,7 +165,7 @@ fn cut_pattern(pattern: &Text) -> (&str, &str)
 
 /// A pattern of `glob` with the directory in which it looks.
 #[derive(Drop)]
-struct Placed {
+struct PlacedPattern {
     /// What the names of the files match.
     names: Text,
     /// The directory.
@@ -175,7 +175,7 @@ struct Placed {
 }
 
 /// A pattern, whose directory is relative to that of the project.
-fn place_pattern(alloc: Global, place: &Path, pattern: &Text) -> Result<Placed, OutOfMemory>
+fn place_pattern(alloc: Global, place: &Path, pattern: &Text) -> Result<PlacedPattern, OutOfMemory>
     ensures names { IfOk result (λ made. made.names ≡ file_name pattern.now) }
     ensures listed { IfOk result (λ made. made.listed ≡ path_from place.now (dir_of pattern.now)) }
     ensures shown { IfOk result (λ made. made.shown ≡ normal_of (dir_of pattern.now)) }
@@ -184,7 +184,7 @@ fn place_pattern(alloc: Global, place: &Path, pattern: &Text) -> Result<Placed, 
     let listed = path_from(alloc, place, dir)?;
     let shown = path_of(alloc, dir)?;
     let names = Text::new(alloc, file)?;
-    Ok(Placed {
+    Ok(PlacedPattern {
         names,
         listed,
         shown,
@@ -205,7 +205,7 @@ fn add_globbed<F: Files>(
     ensures found { WhereSeen (F.outside files.old).disk (λ sight. OnOk result (found.new ≡ found.old ++ found_by sight roots.now place.now excluded.now pattern.now)) }
 {
     let placed = place_pattern(alloc, place, pattern)?;
-    let search = Search {
+    let search = GlobSearch {
         patterns: slice::from_ref(&placed.names),
         excluded,
         roots,

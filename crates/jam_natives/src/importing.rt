@@ -2,15 +2,15 @@
 ghost use Rattle.std.specs.Prelude.{◌≡◌, length, IfOk, OnOk, OnErr};
 ghost use Rattle.std.specs.Option.{option_copied};
 ghost use Rattle.b2_base.specs.Bytes.{HasNoZero};
-ghost use Rattle.jam_eval.specs.NativeCalls.{KeepsFrames, PutsPart};
+ghost use Rattle.jam_meaning.specs.NativeCalls.{KeepsFrames, PutsPart};
 ghost use Rattle.jam_scope.specs.Changes.{changed};
 ghost use Rattle.jam_natives.specs.Rows.{missing_rule, import_each, imported, import_call, export_call};
-ghost use Rattle.jam_natives.specs.Calls.{IsPut};
+ghost use Rattle.jam_natives.specs.NativeAnswers.{IsPut};
 
 use b2_base::fault::OutOfMemory;
 use b2_base::text::Text;
 use b2_base::text_list::{TextList, first_of, list_at};
-use jam_eval::natives::{NativeError, NativeStep};
+use jam_meaning::natives::{NativeError, NativeStep};
 use jam_patterns::native_fault::NativeFault;
 use jam_scope::rule_ref::RuleRef;
 use jam_scope::world::World;

@@ -7,7 +7,7 @@ use b2_base::text::is_among;
 
 /// Native rules that look at their lists and the world alone.
 #[derive(Clone, Copy)]
-pub enum Reading {
+pub enum ReadingRule {
     /// `EXIT`
     Exit,
     /// `MATCH`
@@ -47,7 +47,7 @@ pub enum Native {
     /// `ECHO`
     Echo,
     /// One that looks at its lists and the world alone.
-    Reads(Reading),
+    Reads(ReadingRule),
     /// One that notes something of the open step.
     Notes(Noting),
     /// `IMPORT`
@@ -63,9 +63,9 @@ pub enum Native {
 /// The native rules with their names.
 static NATIVES: [(&str, Native); 18] = [
     ("ECHO", Native::Echo),
-    ("EXIT", Native::Reads(Reading::Exit)),
-    ("MATCH", Native::Reads(Reading::Match)),
-    ("feature.get-values", Native::Reads(Reading::GetValues)),
+    ("EXIT", Native::Reads(ReadingRule::Exit)),
+    ("MATCH", Native::Reads(ReadingRule::Match)),
+    ("feature.get-values", Native::Reads(ReadingRule::GetValues)),
     ("GLOB", Native::Glob),
     ("glob", Native::ProjectGlob),
     ("DEPENDS", Native::Notes(Noting::Depends)),
@@ -74,12 +74,12 @@ static NATIVES: [(&str, Native); 18] = [
     ("NOTFILE", Native::Notes(Noting::NotFile)),
     ("IMPORT", Native::Import),
     ("EXPORT", Native::Export),
-    ("RULENAMES", Native::Reads(Reading::RuleNames)),
-    ("VARNAMES", Native::Reads(Reading::VarNames)),
-    ("CALLER_MODULE", Native::Reads(Reading::CallerModule)),
-    ("SORT", Native::Reads(Reading::Sort)),
-    ("sequence.transform", Native::Reads(Reading::Transform)),
-    ("sequence.filter", Native::Reads(Reading::Filter)),
+    ("RULENAMES", Native::Reads(ReadingRule::RuleNames)),
+    ("VARNAMES", Native::Reads(ReadingRule::VarNames)),
+    ("CALLER_MODULE", Native::Reads(ReadingRule::CallerModule)),
+    ("SORT", Native::Reads(ReadingRule::Sort)),
+    ("sequence.transform", Native::Reads(ReadingRule::Transform)),
+    ("sequence.filter", Native::Reads(ReadingRule::Filter)),
 ];
 
 /// The native rule of the first row with this name.
@@ -107,19 +107,19 @@ pub fn native_of(name: &str) -> Option<Native>
 }
 
 /// How many texts the lists of a rule have that looks at them.
-fn shape_of_reading(rule: Reading) -> &'static [Count]
+fn shape_of_reading(rule: ReadingRule) -> &'static [Count]
     ensures { result.now ≡ shape_of (Native.Reads rule) }
 {
     match rule {
-        Reading::Exit => &[Count::Any],
-        Reading::Match => &[Count::AtLeastOne, Count::Any],
-        Reading::GetValues => &[Count::One, Count::Any],
-        Reading::RuleNames => &[Count::AtMostOne],
-        Reading::VarNames => &[Count::AtMostOne],
-        Reading::CallerModule => &[],
-        Reading::Sort => &[Count::Any],
-        Reading::Transform => &[Count::AtLeastOne, Count::Any],
-        Reading::Filter => &[Count::AtLeastOne, Count::Any],
+        ReadingRule::Exit => &[Count::Any],
+        ReadingRule::Match => &[Count::AtLeastOne, Count::Any],
+        ReadingRule::GetValues => &[Count::One, Count::Any],
+        ReadingRule::RuleNames => &[Count::AtMostOne],
+        ReadingRule::VarNames => &[Count::AtMostOne],
+        ReadingRule::CallerModule => &[],
+        ReadingRule::Sort => &[Count::Any],
+        ReadingRule::Transform => &[Count::AtLeastOne, Count::Any],
+        ReadingRule::Filter => &[Count::AtLeastOne, Count::Any],
     }
 }
 

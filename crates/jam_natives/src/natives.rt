@@ -5,7 +5,7 @@ ghost use Rattle.jam_natives.specs.Keeping.{Kept};
 ghost use Rattle.jam_natives.specs.Seeing.{kept_of, IsCalled};
 ghost use Rattle.jam_natives.specs.Rows.{row, row_if_shaped, call_of, declare, declare_or_not, echo, with_roots};
 ghost use Rattle.jam_natives.specs.Rules.{native_of};
-ghost use Rattle.jam_natives.specs.Calls.{IsAnsweredBy, IsDeclared};
+ghost use Rattle.jam_natives.specs.NativeAnswers.{IsAnsweredBy, IsDeclared};
 
 use crate::decl::Decl;
 use crate::declaring::{add_output_dirs, decl_of};
@@ -21,7 +21,7 @@ use b2_base::text::Text;
 use b2_base::text_list::{TextList, list_at};
 use b2_host::fault::IoFault;
 use b2_host::files::Files;
-use jam_eval::natives::{NativeError, NativeStep, Natives};
+use jam_meaning::natives::{NativeError, NativeStep, Natives};
 use jam_scope::world::World;
 use std::alloc::Global;
 

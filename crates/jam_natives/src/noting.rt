@@ -1,29 +1,29 @@
 //! DEPENDS, INCLUDES, ALWAYS and NOTFILE.
 ghost use Rattle.std.specs.Prelude.{◌≡◌, IfOk, IfSome, OnOk, OnErr, option_map};
 ghost use Rattle.b2_base.specs.Bytes.{HasNoZero};
-ghost use Rattle.jam_eval.specs.NativeCalls.{KeepsFrames, PutsPart};
+ghost use Rattle.jam_meaning.specs.NativeCalls.{KeepsFrames, PutsPart};
 ghost use Rattle.jam_scope.specs.Changes.{changed};
 ghost use Rattle.jam_natives.specs.Named.{paths_in};
 ghost use Rattle.jam_natives.specs.Rows.{named_by, add_each, noted, foreign_in, name_of, note};
-ghost use Rattle.jam_natives.specs.Calls.{IsPut};
+ghost use Rattle.jam_natives.specs.NativeAnswers.{IsPut};
 
 use crate::native::Noting;
-use crate::target::{Named, first_foreign};
+use crate::target::{StepPaths, first_foreign};
 use b2_base::fault::OutOfMemory;
 use b2_base::path::path_of;
 use b2_base::text::Text;
 use b2_base::text_list::{TextList, first_of, list_at};
-use jam_eval::natives::{NativeError, NativeStep};
+use jam_meaning::natives::{NativeError, NativeStep};
 use jam_patterns::native_fault::NativeFault;
 use jam_scope::notes::StepNotes;
 use jam_scope::world::World;
 use std::alloc::Global;
 
 /// The outputs of a step, which targets may name.
-fn outs_of(notes: &StepNotes) -> Named<'_>
+fn outs_of(notes: &StepNotes) -> StepPaths<'_>
     ensures { paths_in result ≡ named_by Noting.Depends notes.now }
 {
-    Named {
+    StepPaths {
         outs: notes.outs.as_slice(),
         ins: &[],
         added: &[],
@@ -31,12 +31,12 @@ fn outs_of(notes: &StepNotes) -> Named<'_>
 }
 
 /// What a target may name.
-fn named_by(rule: Noting, notes: &StepNotes) -> Named<'_>
+fn named_by(rule: Noting, notes: &StepNotes) -> StepPaths<'_>
     ensures { paths_in result ≡ named_by rule notes.now }
 {
     match rule {
         Noting::Depends => outs_of(notes),
-        Noting::Includes => Named {
+        Noting::Includes => StepPaths {
             outs: notes.outs.as_slice(),
             ins: notes.ins.as_slice(),
             added: notes.depends.as_slice(),

@@ -3,15 +3,15 @@ ghost use Rattle.std.specs.Prelude.{◌≡◌, IfOk};
 ghost use Rattle.b2_base.specs.Lists.{list_at};
 ghost use Rattle.jam_natives.specs.Matches.{matches_of};
 ghost use Rattle.jam_natives.specs.Rows.{module_list, matched, read};
-ghost use Rattle.jam_natives.specs.Calls.{IsRead};
+ghost use Rattle.jam_natives.specs.NativeAnswers.{IsRead};
 
-use crate::native::Reading;
+use crate::native::ReadingRule;
 use crate::pattern_match::match_all;
 use crate::texts::{after_start, line_of, sorted};
 use b2_base::fault::OutOfMemory;
 use b2_base::text::Text;
 use b2_base::text_list::{TextList, copy_texts, first_of, list_at};
-use jam_eval::natives::{NativeError, NativeStep};
+use jam_meaning::natives::{NativeError, NativeStep};
 use jam_patterns::native_fault::NativeFault;
 use jam_patterns::refusal::PatternFault;
 use jam_scope::world::World;
@@ -61,7 +61,7 @@ fn each(alloc: Global, args: &[TextList], filter: bool) -> Result<NativeStep, Ou
 /// Calls a rule that changes nothing, with lists of its shape.
 pub(crate) fn read(
     alloc: Global,
-    rule: Reading,
+    rule: ReadingRule,
     args: &[TextList],
     world: &World,
 ) -> Result<NativeStep, NativeError>
@@ -69,17 +69,17 @@ pub(crate) fn read(
 {
     let first = list_at(args, 0);
     match rule {
-        Reading::Exit => Ok(NativeStep::Exit(line_of(alloc, first)?)),
-        Reading::Match => matched(alloc, args),
-        Reading::GetValues => {
+        ReadingRule::Exit => Ok(NativeStep::Exit(line_of(alloc, first)?)),
+        ReadingRule::Match => matched(alloc, args),
+        ReadingRule::GetValues => {
             let found = after_start(alloc, first_of(first), list_at(args, 1))?;
             Ok(NativeStep::Value(found))
         }
-        Reading::RuleNames => Ok(NativeStep::Value(world.rule_names(first_of(first))?)),
-        Reading::VarNames => Ok(NativeStep::Value(world.var_names(first_of(first))?)),
-        Reading::CallerModule => Ok(NativeStep::Value(module_list(alloc, world.caller())?)),
-        Reading::Sort => Ok(NativeStep::Value(sorted(alloc, first)?)),
-        Reading::Transform => Ok(each(alloc, args, false)?),
-        Reading::Filter => Ok(each(alloc, args, true)?),
+        ReadingRule::RuleNames => Ok(NativeStep::Value(world.rule_names(first_of(first))?)),
+        ReadingRule::VarNames => Ok(NativeStep::Value(world.var_names(first_of(first))?)),
+        ReadingRule::CallerModule => Ok(NativeStep::Value(module_list(alloc, world.caller())?)),
+        ReadingRule::Sort => Ok(NativeStep::Value(sorted(alloc, first)?)),
+        ReadingRule::Transform => Ok(each(alloc, args, false)?),
+        ReadingRule::Filter => Ok(each(alloc, args, true)?),
     }
 }

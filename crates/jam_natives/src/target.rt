@@ -13,7 +13,7 @@ use std::alloc::Global;
 
 /// The paths that a target may name: a step's outputs, and for INCLUDES its inputs and those that were added.
 #[derive(Clone, Copy)]
-pub struct Named<'a> {
+pub struct StepPaths<'a> {
     pub outs: &'a [Path],
     pub ins: &'a [Path],
     pub added: &'a [Path],
@@ -26,14 +26,14 @@ fn stands_in(path: &Path, paths: &[Path]) -> bool
 }
 
 #[tactic(auto, using(crate::proofs::TextsNameNormalPaths::any_joined))]
-fn is_named(path: &Path, named: &Named<'_>) -> bool
+fn is_named(path: &Path, named: &StepPaths<'_>) -> bool
     ensures { result ≡ list_any (bytes_eq path.now) (paths_in named.now) }
 {
     stands_in(path, named.outs) || stands_in(path, named.ins) || stands_in(path, named.added)
 }
 
 /// Whether a text names one of the paths.
-fn names_one(alloc: Global, text: &Text, named: &Named<'_>) -> Result<bool, OutOfMemory>
+fn names_one(alloc: Global, text: &Text, named: &StepPaths<'_>) -> Result<bool, OutOfMemory>
     ensures { IfOk result (λ found. found ≡ names_one (paths_in named.now) text.now) }
 {
     let name = text.as_str();
@@ -45,7 +45,7 @@ fn names_one(alloc: Global, text: &Text, named: &Named<'_>) -> Result<bool, OutO
 }
 
 /// Whether a text names none of the paths.
-fn is_foreign(alloc: Global, text: &Text, named: &Named<'_>) -> Result<bool, OutOfMemory>
+fn is_foreign(alloc: Global, text: &Text, named: &StepPaths<'_>) -> Result<bool, OutOfMemory>
     ensures { IfOk result (λ foreign. foreign ≡ not (names_one (paths_in named.now) text.now)) }
 {
     let found = names_one(alloc, text, named)?;
@@ -56,7 +56,7 @@ fn is_foreign(alloc: Global, text: &Text, named: &Named<'_>) -> Result<bool, Out
 fn foreign_target<'a>(
     alloc: Global,
     targets: &'a [Text],
-    named: &Named<'_>,
+    named: &StepPaths<'_>,
 ) -> Result<Option<&'a Text>, OutOfMemory>
     ensures { IfOk result (λ found. option_copied found ≡ find (λ target. not (names_one (paths_in named.now) target)) targets.now) }
 {
@@ -85,7 +85,7 @@ pub fn first_foreign<'a>(
     alloc: Global,
     targets: &'a [Text],
     sources: &'a [Text],
-    named: &Named<'_>,
+    named: &StepPaths<'_>,
 ) -> Result<Option<&'a Text>, OutOfMemory>
     ensures { IfOk result (λ found. option_copied found ≡ first_foreign (paths_in named.now) targets.now sources.now) }
 {

@@ -5,7 +5,7 @@ ghost use Rattle.std.specs.List.Sorted.{IsSorted, IsPermutation};
 ghost use Rattle.std.specs.Ordering.{nat_cmp};
 ghost use Rattle.std.specs.Cmp.Lexicographic.{slice_cmp};
 ghost use Rattle.b2_base.specs.Bytes.{HasNoZero};
-ghost use Rattle.jam_natives.specs.Seen.{HasSeen};
+ghost use Rattle.jam_natives.specs.SeenTexts.{HasSeen};
 ghost use Rattle.jam_natives.specs.Texts.{line_of, after_start, sorted, add_new, without_repeats};
 
 use b2_base::fault::OutOfMemory;

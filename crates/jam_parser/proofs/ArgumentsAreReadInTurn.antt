@@ -6,8 +6,8 @@ use Rattle.std.specs.declared.vec.Vec.{Vec}
 use Rattle.std.specs.declared.alloc.Global.{Global}
 use Rattle.b2_base.specs.declared.token.Token.{Token}
 use Rattle.jam_grammar.specs.declared.tree.Arg.{Arg}
-use Rattle.jam_grammar.specs.declared.mark.Mark.{Mark}
-use Rattle.jam_grammar.specs.declared.mark.Mark.TheVariants.{Plain, Query, Star, Plus, Together, Existing, Quietly, Body, SquareOpen, SquareClose, Colon, On, Return}
+use Rattle.jam_grammar.specs.declared.mark.TokenMark.{TokenMark}
+use Rattle.jam_grammar.specs.declared.mark.TokenMark.TheVariants.{Plain, Query, Star, Plus, Together, Existing, Quietly, Body, SquareOpen, SquareClose, Colon, On, Return}
 use Rattle.jam_grammar.specs.Marks.{mark_of_token, is_word, same_mark}
 use Rattle.jam_grammar.specs.Grammar.{Part, OneArg, OneWord, OneInner, InnerTail, Args, More, opens}
 use Rattle.jam_grammar.specs.Grammar as part
@@ -15,7 +15,7 @@ use Rattle.jam_grammar.specs.Machine.{move_key, move, feed, before, go_on, run}
 use Rattle.jam_grammar.specs.Spelling.{Key, Says, Raw, Never, Spells, arg_syms, args_syms, further_syms, lists_syms}
 use Rattle.jam_grammar.specs.Gives.{Leads, Ends}
 use Rattle.jam_grammar.proofs.EveryMarkIsTested.{same_mark_refl}
-use Rattle.jam_parser.specs.Parts.{ComesTo, IsRead}
+use Rattle.jam_parser.specs.PartReadings.{ComesTo, IsRead}
 use Rattle.jam_parser.specs.Starts.{begins_arg, starts_arg, starts_word, starts_with, StandsAfter}
 use Rattle.jam_parser.proofs.ReadingsCompose.{turned, takes_past}
 
@@ -26,7 +26,7 @@ zero_more n = omega arith
 pub arg_comes : (left : List Token) (d : ℕ) → starts_arg left ≡ true → ComesTo (Args ∷ []) (OneArg ∷ Args ∷ []) left d [] left
 arg_comes left d h = turned (Args ∷ []) (OneArg ∷ Args ∷ []) left d (omega arith) (comes left h)
   where
-    same : (k : List Part) (m : Mark) → begins_arg m ≡ true → feed (Args ∷ k) m ≡ feed (OneArg ∷ Args ∷ k) m
+    same : (k : List Part) (m : TokenMark) → begins_arg m ≡ true → feed (Args ∷ k) m ≡ feed (OneArg ∷ Args ∷ k) m
     same k Plain h = refl
     same k Query h = refl
     same k Star h = refl
@@ -75,7 +75,7 @@ colon_comes a b n left d l h = takes_past (More left) (Args ∷ More n ∷ []) C
 pub lists_end : (a : List Token) (left d : ℕ) → left ≡ 0 → ComesTo (More left ∷ []) [] a d [] a
 lists_end a left d l = turned (More left ∷ []) [] a d (omega arith) (ends a)
   where
-    same : (k : List Part) (m : Mark) → feed (More 0 ∷ k) m ≡ feed k m
+    same : (k : List Part) (m : TokenMark) → feed (More 0 ∷ k) m ≡ feed k m
     same k Colon = refl
     same k _ = refl
 
@@ -86,7 +86,7 @@ lists_end a left d l = turned (More left ∷ []) [] a d (omega arith) (ends a)
 pub no_colon_comes : (a : List Token) (left d : ℕ) → starts_with Colon a ≡ false → ComesTo (More left ∷ []) [] a d [] a
 no_colon_comes a left d h = turned (More left ∷ []) [] a d (omega arith) (ends a h)
   where
-    same : (k : List Part) (m : Mark) → same_mark Colon m ≡ false → feed (More left ∷ k) m ≡ feed k m
+    same : (k : List Part) (m : TokenMark) → same_mark Colon m ≡ false → feed (More left ∷ k) m ≡ feed k m
     same k Colon h = cc
     same k _ h = refl
 
@@ -101,7 +101,7 @@ lists_stop a n d h = elim (cases_lt n 9) [ inl y ↦ no_colon_comes a (9 - n) d 
 pub call_comes : (a : List Token) (d : ℕ) → starts_with On a ≡ false → ComesTo (OneInner ∷ []) (OneArg ∷ Args ∷ More 8 ∷ []) a d [] a
 call_comes a d h = turned (OneInner ∷ []) (OneArg ∷ Args ∷ More 8 ∷ []) a d (omega arith) (comes a h)
   where
-    same : (k : List Part) (m : Mark) → same_mark On m ≡ false → feed (OneInner ∷ k) m ≡ feed (OneArg ∷ Args ∷ More 8 ∷ k) m
+    same : (k : List Part) (m : TokenMark) → same_mark On m ≡ false → feed (OneInner ∷ k) m ≡ feed (OneArg ∷ Args ∷ More 8 ∷ k) m
     same k On h = cc
     same k SquareOpen h = ap (λ n. if nat_le (1 + n) 64 then Some (OneInner ∷ part.Key SquareClose ∷ Args ∷ More 8 ∷ k) else None) (zero_more (opens k) ∙ zero_more (0 + opens k))
     same k _ h = refl
@@ -114,7 +114,7 @@ call_comes a d h = turned (OneInner ∷ []) (OneArg ∷ Args ∷ More 8 ∷ []) 
 pub inner_comes : (a : List Token) (d : ℕ) → starts_with Return a ≡ false → ComesTo (InnerTail ∷ []) (OneInner ∷ []) a d [] a
 inner_comes a d h = turned (InnerTail ∷ []) (OneInner ∷ []) a d (omega arith) (comes a h)
   where
-    same : (k : List Part) (m : Mark) → same_mark Return m ≡ false → feed (InnerTail ∷ k) m ≡ feed (OneInner ∷ k) m
+    same : (k : List Part) (m : TokenMark) → same_mark Return m ≡ false → feed (InnerTail ∷ k) m ≡ feed (OneInner ∷ k) m
     same k Return h = cc
     same k _ h = refl
 
@@ -123,7 +123,7 @@ inner_comes a d h = turned (InnerTail ∷ []) (OneInner ∷ []) a d (omega arith
     comes (t ∷ ts) h k o = ap (λ x. go_on x (run ts) (t ∷ ts)) (same k (mark_of_token t) h)
 
 -- a key is read
-pub key_reads : (m : Mark) (a b : List Token) (d : ℕ) → StandsAfter m a b → IsRead (part.Key m ∷ []) a d (Key m ∷ []) b
+pub key_reads : (m : TokenMark) (a b : List Token) (d : ℕ) → StandsAfter m a b → IsRead (part.Key m ∷ []) a d (Key m ∷ []) b
 key_reads m a b d h = takes_past (part.Key m) [] m a b d h (ap move_key (same_mark_refl m))
 
 -- a body is read
@@ -140,7 +140,7 @@ word_reads t a b text d split is e = subst (λ x. IsRead (OneWord ∷ []) x d (S
   shorter = omega arith;
 }
   where
-    takes_word : (k : List Part) (m : Mark) → is_word m ≡ true → feed (OneWord ∷ k) m ≡ Some k
+    takes_word : (k : List Part) (m : TokenMark) → is_word m ≡ true → feed (OneWord ∷ k) m ≡ Some k
     takes_word k Plain h = refl
     takes_word k Query h = refl
     takes_word k Star h = refl
@@ -155,7 +155,7 @@ pub no_word : (a : List Token) (d : ℕ) → starts_word a ≡ false → Ends (O
 no_word [] d h k o = refl
 no_word (t ∷ ts) d h k o = ap (λ x. go_on x (run ts) (t ∷ ts)) (refuses_other (mark_of_token t) h)
   where
-    refuses_other : (m : Mark) → is_word m ≡ false → feed (OneWord ∷ k) m ≡ None
+    refuses_other : (m : TokenMark) → is_word m ≡ false → feed (OneWord ∷ k) m ≡ None
     refuses_other Plain h = cc
     refuses_other Query h = cc
     refuses_other Star h = cc

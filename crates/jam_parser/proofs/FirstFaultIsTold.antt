@@ -4,11 +4,11 @@ use Rattle.b2_base.specs.declared.token.Token.{Token}
 use Rattle.jam_grammar.specs.Grammar.{Stmts}
 use Rattle.jam_grammar.specs.Readings.{last_line, IsFirstFaultAt}
 use Rattle.jam_grammar.proofs.MachineStopsAtFirstFault.{first_fault}
-use Rattle.jam_parser.specs.declared.reading.Fault.{Fault}
-use Rattle.jam_parser.specs.declared.reading.Fault.TheVariants as here
+use Rattle.jam_parser.specs.declared.reading.ReadingFault.{ReadingFault}
+use Rattle.jam_parser.specs.declared.reading.ReadingFault.TheVariants as here
 use Rattle.jam_parser.specs.declared.fault.SyntaxFault.{SyntaxFault}
 use Rattle.jam_parser.specs.declared.fault.SyntaxFault.TheVariants as faults
-use Rattle.jam_parser.specs.Parts.{EndsBy}
+use Rattle.jam_parser.specs.PartReadings.{EndsBy}
 use Rattle.jam_parser.specs.Faults.{IsFault, IsFaultHere, IsToldAt}
 
 pub last_is : (ts : List Token) (t : Token) → last_line (ts ++ t ∷ []) ≡ t.line
@@ -17,7 +17,7 @@ last_is (u ∷ []) t = refl
 last_is (u ∷ v ∷ ts) t = last_is (v ∷ ts) t
 
 -- where reading ends, the first fault is
-pub fault_is : (ts : List Token) (e : Fault) → EndsBy (Stmts ∷ []) ts 0 e → IsFaultHere ts e
+pub fault_is : (ts : List Token) (e : ReadingFault) → EndsBy (Stmts ∷ []) ts 0 e → IsFaultHere ts e
 fault_is ts here.Memory h = tt
 fault_is ts (here.At rest) h = first_fault ts rest.now (h [] refl)
 

@@ -1,8 +1,8 @@
 -- Modifiers of actions are read one after another where a word stands behind each, and then the name is.
 use Rattle.std.proofs.Common.{◌≡◌, ℕ, List, [], ◌∷◌, Bool, true, false, Some, None, refl, sym, ap, ◌∙◌, subst, arith, length}
 use Rattle.b2_base.specs.declared.token.Token.{Token}
-use Rattle.jam_grammar.specs.declared.mark.Mark.{Mark}
-use Rattle.jam_grammar.specs.declared.mark.Mark.TheVariants as m
+use Rattle.jam_grammar.specs.declared.mark.TokenMark.{TokenMark}
+use Rattle.jam_grammar.specs.declared.mark.TokenMark.TheVariants as m
 use Rattle.jam_grammar.specs.Marks.{mark_of_token, is_word}
 use Rattle.jam_grammar.specs.Grammar.{Part, Heading, Headed}
 use Rattle.jam_grammar.specs.Machine.{feed, go_on, run}
@@ -10,13 +10,13 @@ use Rattle.jam_grammar.specs.Spelling.{Spells, Switches, none, together, existin
 use Rattle.jam_grammar.specs.Gives.{Ends}
 use Rattle.jam_parser.specs.declared.heading.Modes.{Modes}
 use Rattle.jam_parser.specs.Starts.{starts_word}
-use Rattle.jam_parser.specs.Parts.{IsRead, EndsBy}
-use Rattle.jam_parser.specs.declared.reading.Fault.{Fault}
-use Rattle.jam_parser.specs.declared.reading.Fault.TheVariants as faults
+use Rattle.jam_parser.specs.PartReadings.{IsRead, EndsBy}
+use Rattle.jam_parser.specs.declared.reading.ReadingFault.{ReadingFault}
+use Rattle.jam_parser.specs.declared.reading.ReadingFault.TheVariants as faults
 use Rattle.jam_parser.specs.Headings.{heading_of, head_syms, switched, GoesOn, NoModifier}
 
 -- behind a modifier a heading goes on where a word stands, and ends where none does
-headed_feeds : (a b c : Bool) (k : List Part) (x : Mark) → is_word x ≡ true → feed (Headed a b c ∷ k) x ≡ feed (Heading a b c ∷ k) x
+headed_feeds : (a b c : Bool) (k : List Part) (x : TokenMark) → is_word x ≡ true → feed (Headed a b c ∷ k) x ≡ feed (Heading a b c ∷ k) x
 headed_feeds true b c k m.Together h = refl
 headed_feeds false b c k m.Together h = refl
 headed_feeds a true c k m.Existing h = refl
@@ -33,7 +33,7 @@ goes_on : (a b c : Bool) (k : List Part) (ts : List Token) → starts_word ts �
 goes_on a b c k [] h = cc
 goes_on a b c k (t ∷ ts) h = ap (λ x. go_on x (run ts) (t ∷ ts)) (headed_feeds a b c k (mark_of_token t) h)
 
-headed_skips : (a b c : Bool) (k : List Part) (x : Mark) → is_word x ≡ false → feed (Headed a b c ∷ k) x ≡ feed k x
+headed_skips : (a b c : Bool) (k : List Part) (x : TokenMark) → is_word x ≡ false → feed (Headed a b c ∷ k) x ≡ feed k x
 headed_skips a b c k m.Together h = cc
 headed_skips a b c k m.Existing h = cc
 headed_skips a b c k m.Quietly h = cc
@@ -48,10 +48,10 @@ ends a b c k [] h = refl
 ends a b c k (t ∷ ts) h = ap (λ x. go_on x (run ts) (t ∷ ts)) (headed_skips a b c k (mark_of_token t) h)
 
 -- one modifier, and a heading after it
-abbrev Behind : Modes → Modes → List Part → Mark → Type 0
+abbrev Behind : Modes → Modes → List Part → TokenMark → Type 0
 Behind stood more k x = feed (heading_of stood ∷ k) x ≡ Some (Headed more.together more.existing more.quietly ∷ k)
 
-switch_feeds : (a b c : Bool) (x : Mark) (more : Modes) (k : List Part) → switched a b c x ≡ Some more → Behind record { together = a; existing = b; quietly = c } more k x
+switch_feeds : (a b c : Bool) (x : TokenMark) (more : Modes) (k : List Part) → switched a b c x ≡ Some more → Behind record { together = a; existing = b; quietly = c } more k x
 switch_feeds true b c m.Together more k h = cc
 switch_feeds false b c m.Together more k h = let is : record { together = true; existing = b; quietly = c } ≡ more = cc in ap (λ (s : Modes). Some (Headed s.together s.existing s.quietly ∷ k)) is
 switch_feeds a true c m.Existing more k h = cc
@@ -63,7 +63,7 @@ switch_feeds a b c _ more k h = cc
 abbrev Stands : Modes → Modes → List Token → List Token → Type 0
 Stands stood more ts left = Switches stood.together stood.existing stood.quietly more.together more.existing more.quietly ts left
 
-switch_spells : (a b c : Bool) (x : Mark) (t : Token) (ts left : List Token) (more last : Modes) → mark_of_token t ≡ x → switched a b c x ≡ Some more → Stands more last ts left → Stands record { together = a; existing = b; quietly = c } last (t ∷ ts) left
+switch_spells : (a b c : Bool) (x : TokenMark) (t : Token) (ts left : List Token) (more last : Modes) → mark_of_token t ≡ x → switched a b c x ≡ Some more → Stands more last ts left → Stands record { together = a; existing = b; quietly = c } last (t ∷ ts) left
 switch_spells true b c m.Together t ts left more last is h w = cc
 switch_spells false b c m.Together t ts left more last is h w = let e : more ≡ record { together = true; existing = b; quietly = c } = cc in together is (subst (λ (s : Modes). Stands s last ts left) e w)
 switch_spells a true c m.Existing t ts left more last is h w = cc
@@ -88,12 +88,12 @@ modifier_read stood more last name a b c d h r = record {
   shorter = let e = h.split in omega (arith, r.shorter, ap length e);
 }
 
-pub modifier_fault : (stood more : Modes) (a b : List Token) (d : ℕ) (e : Fault) → GoesOn stood a more b → EndsBy (heading_of more ∷ []) b d e → EndsBy (heading_of stood ∷ []) a d e
+pub modifier_fault : (stood more : Modes) (a b : List Token) (d : ℕ) (e : ReadingFault) → GoesOn stood a more b → EndsBy (heading_of more ∷ []) b d e → EndsBy (heading_of stood ∷ []) a d e
 modifier_fault stood more a b d faults.Memory h r = tt
 modifier_fault stood more a b d (faults.At rest) h r = λ k o. first_moves stood more a b k h ∙ r k o
 
 -- the name
-name_feeds : (a b c : Bool) (x : Mark) (k : List Part) (ts : List Token) (t : Token) → is_word x ≡ true → ((more : Modes) → switched a b c x ≡ Some more → starts_word ts ≡ false) → go_on (feed (Heading a b c ∷ k) x) (run ts) (t ∷ ts) ≡ run ts k
+name_feeds : (a b c : Bool) (x : TokenMark) (k : List Part) (ts : List Token) (t : Token) → is_word x ≡ true → ((more : Modes) → switched a b c x ≡ Some more → starts_word ts ≡ false) → go_on (feed (Heading a b c ∷ k) x) (run ts) (t ∷ ts) ≡ run ts k
 name_feeds true b c m.Together k ts t h bound = refl
 name_feeds false b c m.Together k ts t h bound = ends true b c k ts (bound _ refl)
 name_feeds a true c m.Existing k ts t h bound = refl
@@ -116,7 +116,7 @@ name_read stood t a b name d bound h is e =
     }
 
 -- no word
-refuses_other : (a b c : Bool) (k : List Part) (x : Mark) → is_word x ≡ false → feed (Heading a b c ∷ k) x ≡ None
+refuses_other : (a b c : Bool) (k : List Part) (x : TokenMark) → is_word x ≡ false → feed (Heading a b c ∷ k) x ≡ None
 refuses_other a b c k m.Together h = cc
 refuses_other a b c k m.Existing h = cc
 refuses_other a b c k m.Quietly h = cc

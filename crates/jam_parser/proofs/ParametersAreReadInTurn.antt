@@ -7,13 +7,13 @@ use Rattle.std.specs.declared.vec.Vec.{Vec}
 use Rattle.std.specs.declared.alloc.Global.{Global}
 use Rattle.b2_base.specs.declared.token.Token.{Token}
 use Rattle.jam_grammar.specs.declared.tree.Param.{Param}
-use Rattle.jam_grammar.specs.declared.mark.Mark.{Mark}
-use Rattle.jam_grammar.specs.declared.mark.Mark.TheVariants as m
+use Rattle.jam_grammar.specs.declared.mark.TokenMark.{TokenMark}
+use Rattle.jam_grammar.specs.declared.mark.TokenMark.TheVariants as m
 use Rattle.jam_grammar.specs.Marks.{mark_of_token, is_name}
 use Rattle.jam_grammar.specs.Grammar.{Part, Params, MoreParams, Names, NameTail}
 use Rattle.jam_grammar.specs.Machine.{feed, go_on, run}
 use Rattle.jam_grammar.specs.Spelling.{Key, Named, Spells, param_syms, takes_all, no_mark, plist_syms, further_params, params_syms}
-use Rattle.jam_parser.specs.Parts.{least, ComesTo}
+use Rattle.jam_parser.specs.PartReadings.{least, ComesTo}
 use Rattle.jam_parser.specs.Params.{after_name, after_list, params_read}
 use Rattle.jam_grammar.specs.Trees.{lists_of}
 use Rattle.jam_parser.specs.Starts.{StandsAfter}
@@ -37,7 +37,7 @@ pub more_names : (xs ys : List Param) (x : Param) → ys ≡ xs ++ x ∷ [] → 
 more_names xs ys x e = ap (flat_map param_syms) e ∙ names_snoc xs x
 
 -- a name, where one may come
-takes_name : (k : List Part) (x : Mark) → is_name x ≡ true → feed (Names ∷ k) x ≡ Some (NameTail ∷ k)
+takes_name : (k : List Part) (x : TokenMark) → is_name x ≡ true → feed (Names ∷ k) x ≡ Some (NameTail ∷ k)
 takes_name k m.Plain h = refl
 takes_name k m.Together h = refl
 takes_name k m.Existing h = refl

@@ -7,8 +7,8 @@ use Rattle.b2_base.specs.declared.token.Token.{Token}
 use Rattle.jam_grammar.specs.declared.tree.Stmt.{Stmt}
 use Rattle.jam_grammar.specs.declared.tree.Block.{roll-Block}
 use Rattle.jam_grammar.specs.declared.tree.Case.{Case, Case', roll-Case, rolls-Case'}
-use Rattle.jam_grammar.specs.declared.mark.Mark.{Mark}
-use Rattle.jam_grammar.specs.declared.mark.Mark.TheVariants as m
+use Rattle.jam_grammar.specs.declared.mark.TokenMark.{TokenMark}
+use Rattle.jam_grammar.specs.declared.mark.TokenMark.TheVariants as m
 use Rattle.jam_grammar.specs.Marks.{mark_of_token}
 use Rattle.jam_grammar.specs.Grammar as part
 use Rattle.jam_grammar.specs.Grammar.{Part, Stmts, OneStmt, OneBlock, Tail, opens}
@@ -16,7 +16,7 @@ use Rattle.jam_grammar.specs.Machine.{feed, go_on, run}
 use Rattle.jam_grammar.specs.Spelling.{Sym, Key, Says, From, StartsOn, spell_stmts, block_syms, stmt_syms, stmts_syms, case_syms, cases_syms}
 use Rattle.jam_grammar.specs.Gives.{Leads}
 use Rattle.jam_grammar.proofs.TreesAreThoseOfElements.{block_is}
-use Rattle.jam_parser.specs.Parts.{ComesTo}
+use Rattle.jam_parser.specs.PartReadings.{ComesTo}
 use Rattle.jam_parser.specs.Starts.{begins_stmt, starts_stmt, line_first, StandsAfter}
 use Rattle.jam_parser.proofs.ReadingsCompose.{turned}
 
@@ -27,7 +27,7 @@ zero_more n = omega arith
 pub stmt_comes : (left : List Token) (d : ℕ) → starts_stmt left ≡ true → ComesTo (Stmts ∷ []) (OneStmt ∷ Stmts ∷ []) left d [] left
 stmt_comes left d h = turned (Stmts ∷ []) (OneStmt ∷ Stmts ∷ []) left d (omega arith) (comes left h)
   where
-    same : (k : List Part) (x : Mark) → begins_stmt x ≡ true → feed (Stmts ∷ k) x ≡ feed (OneStmt ∷ Stmts ∷ k) x
+    same : (k : List Part) (x : TokenMark) → begins_stmt x ≡ true → feed (Stmts ∷ k) x ≡ feed (OneStmt ∷ Stmts ∷ k) x
     same k m.SquareOpen h = ap (λ n. if nat_le (1 + n) 64 then Some (part.OneInner ∷ part.Key m.SquareClose ∷ Tail ∷ Stmts ∷ k) else None) (zero_more (opens k))
     same k m.BraceOpen h = ap (λ n. if nat_le (1 + n) 64 then Some (Stmts ∷ part.Key m.BraceClose ∷ Stmts ∷ k) else None) (zero_more (opens k))
     same k m.If h = ap (λ n. if nat_le (1 + n) 64 then Some (part.OneExpr ∷ OneBlock ∷ part.OneElse ∷ Stmts ∷ k) else None) (zero_more (opens k))
@@ -79,7 +79,7 @@ case_is pattern stmts =
     ∙ ap (λ s. Key m.Case ∷ Says pattern ∷ Key m.Colon ∷ s) (append-nil _ ∙ ap spell_stmts (block_is stmts))
 
 -- what is read begins on the line of its first token
-pub lined : (p q : List Part) {s : List Sym} (want : Mark) (a b c : List Token) (d line : ℕ) → StandsAfter want a b → line ≡ line_first a → ComesTo p q a d s c → ComesTo p q a d (From line ∷ s) c
+pub lined : (p q : List Part) {s : List Sym} (want : TokenMark) (a b c : List Token) (d line : ℕ) → StandsAfter want a b → line ≡ line_first a → ComesTo p q a d s c → ComesTo p q a d (From line ∷ s) c
 lined p q {s} want a b c d line h e x = record {
   moves = x.moves;
   spells = (subst (StartsOn line) (sym h.split) (sym (e ∙ ap line_first h.split)), x.spells);

@@ -1,7 +1,7 @@
 -- What a statement begins with.
 use Rattle.std.specs.Prelude.{◌≡◌, List, true, false}
 use Rattle.b2_base.specs.declared.token.Token.{Token}
-use Rattle.jam_grammar.specs.declared.mark.Mark.TheVariants as m
+use Rattle.jam_grammar.specs.declared.mark.TokenMark.TheVariants as m
 use Rattle.jam_parser.specs.declared.start.Start.{Start}
 use Rattle.jam_parser.specs.declared.start.Start.TheVariants as s
 use Rattle.jam_parser.specs.Starts.{starts_arg, starts_stmt, starts_with, StandsAfter}

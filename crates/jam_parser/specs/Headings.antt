@@ -1,8 +1,8 @@
 -- What stands between `actions` and the body.
 use Rattle.std.specs.Prelude.{◌≡◌, ℕ, List, [], ◌∷◌, Bool, true, false, Option, Some, None}
 use Rattle.b2_base.specs.declared.token.Token.{Token}
-use Rattle.jam_grammar.specs.declared.mark.Mark.{Mark}
-use Rattle.jam_grammar.specs.declared.mark.Mark.TheVariants as m
+use Rattle.jam_grammar.specs.declared.mark.TokenMark.{TokenMark}
+use Rattle.jam_grammar.specs.declared.mark.TokenMark.TheVariants as m
 use Rattle.jam_grammar.specs.Marks.{mark_of_token}
 use Rattle.jam_grammar.specs.Grammar.{Part, Heading}
 use Rattle.jam_grammar.specs.Spelling.{Sym, Heads, Says}
@@ -22,7 +22,7 @@ abbrev pub unless : Bool → Modes → Option Modes
 unless true more = None
 unless false more = Some more
 
-abbrev pub switched : Bool → Bool → Bool → Mark → Option Modes
+abbrev pub switched : Bool → Bool → Bool → TokenMark → Option Modes
 switched a b c m.Together = unless a record { together = true; existing = b; quietly = c }
 switched a b c m.Existing = unless b record { together = a; existing = true; quietly = c }
 switched a b c m.Quietly = unless c record { together = a; existing = b; quietly = true }

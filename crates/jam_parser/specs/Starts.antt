@@ -1,12 +1,12 @@
 -- What begins a part that may be left out.
 use Rattle.std.specs.Prelude.{◌≡◌, ℕ, List, [], ◌∷◌, Bool, true, false}
 use Rattle.b2_base.specs.declared.token.Token.{Token}
-use Rattle.jam_grammar.specs.declared.mark.Mark.{Mark}
-use Rattle.jam_grammar.specs.declared.mark.Mark.TheVariants.{Plain, Query, Star, Plus, Together, Existing, Quietly, SquareOpen, BraceOpen, Local, Include, Return, If, For, While, Switch, Module, Rule, Actions, On, Equals, PlusEquals, QueryEquals}
+use Rattle.jam_grammar.specs.declared.mark.TokenMark.{TokenMark}
+use Rattle.jam_grammar.specs.declared.mark.TokenMark.TheVariants.{Plain, Query, Star, Plus, Together, Existing, Quietly, SquareOpen, BraceOpen, Local, Include, Return, If, For, While, Switch, Module, Rule, Actions, On, Equals, PlusEquals, QueryEquals}
 use Rattle.jam_grammar.specs.Marks.{mark_of_token, is_word, is_name, same_mark}
 
 -- an argument
-abbrev pub begins_arg : Mark → Bool
+abbrev pub begins_arg : TokenMark → Bool
 begins_arg Plain = true
 begins_arg Query = true
 begins_arg Star = true
@@ -32,7 +32,7 @@ starts_name [] = false
 starts_name (token ∷ tokens) = is_name (mark_of_token token)
 
 -- a statement
-abbrev pub begins_stmt : Mark → Bool
+abbrev pub begins_stmt : TokenMark → Bool
 begins_stmt Plain = true
 begins_stmt Query = true
 begins_stmt Star = true
@@ -60,7 +60,7 @@ starts_stmt [] = false
 starts_stmt (token ∷ tokens) = begins_stmt (mark_of_token token)
 
 -- a sign of an assignment
-abbrev pub is_sign : Mark → Bool
+abbrev pub is_sign : TokenMark → Bool
 is_sign Equals = true
 is_sign PlusEquals = true
 is_sign QueryEquals = true
@@ -76,12 +76,12 @@ line_first [] = 0
 line_first (token ∷ tokens) = token.line
 
 -- whether the mark stands first
-abbrev pub starts_with : Mark → List Token → Bool
+abbrev pub starts_with : TokenMark → List Token → Bool
 starts_with want [] = false
 starts_with want (token ∷ tokens) = same_mark want (mark_of_token token)
 
 -- the mark stands first, and the others after it
-pub record StandsAfter (want : Mark) (tokens after : List Token) : Type 0 where
+pub record StandsAfter (want : TokenMark) (tokens after : List Token) : Type 0 where
   pub first : Token
   pub split : tokens ≡ first ∷ after
   pub is_it : mark_of_token first ≡ want

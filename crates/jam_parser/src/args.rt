@@ -3,14 +3,14 @@ ghost use Rattle.std.specs.Prelude.{◌≡◌, ◌<◌, ◌≤◌, ◌∷◌, []
 ghost use Rattle.jam_grammar.specs.Spelling.{arg_syms, args_syms, lists_syms, inner_syms};
 ghost use Rattle.jam_grammar.specs.Spelling as spelling;
 ghost use Rattle.jam_grammar.specs.Grammar.{OneArg, Args, More, OneInner, InnerTail};
-ghost use Rattle.jam_grammar.specs.declared.mark.Mark.TheVariants as marks;
+ghost use Rattle.jam_grammar.specs.declared.mark.TokenMark.TheVariants as marks;
 ghost use Rattle.jam_parser.specs.Starts.{starts_arg, starts_with, StandsAfter};
-ghost use Rattle.jam_parser.specs.Parts.{IsRead, Completes, EndsBy, in_brackets, ReadsOn};
+ghost use Rattle.jam_parser.specs.PartReadings.{IsRead, Completes, EndsBy, in_brackets, ReadsOn};
 
-use crate::reading::{Fault, key_here, next_of, past, word_here};
+use crate::reading::{ReadingFault, key_here, next_of, past, word_here};
 use b2_base::token::Token;
 use jam_expand::word::Word;
-use jam_grammar::mark::Mark;
+use jam_grammar::mark::TokenMark;
 use jam_grammar::tree::{Arg, Inner};
 use std::alloc::Global;
 
@@ -27,14 +27,14 @@ pub fn at_arg(rest: &[Token]) -> bool
     match next_of(rest) {
         Some(
             (
-                Mark::Plain
-                | Mark::Query
-                | Mark::Star
-                | Mark::Plus
-                | Mark::Together
-                | Mark::Existing
-                | Mark::Quietly
-                | Mark::SquareOpen,
+                TokenMark::Plain
+                | TokenMark::Query
+                | TokenMark::Star
+                | TokenMark::Plus
+                | TokenMark::Together
+                | TokenMark::Existing
+                | TokenMark::Quietly
+                | TokenMark::SquareOpen,
                 _,
                 _,
             ),
@@ -45,13 +45,17 @@ pub fn at_arg(rest: &[Token]) -> bool
 
 /// Reads an argument, where depth are open.
 #[cycle(args)]
-pub fn arg<'a>(alloc: Global, rest: &'a [Token], depth: u8) -> Result<(Arg, &'a [Token]), Fault<'a>>
+pub fn arg<'a>(
+    alloc: Global,
+    rest: &'a [Token],
+    depth: u8,
+) -> Result<(Arg, &'a [Token]), ReadingFault<'a>>
     requires { depth ≤ 64 }
     ensures { MatchResult result (λ r. IsRead (OneArg ∷ []) rest.now depth (arg_syms r.0) r.1.now) (λ e. EndsBy (OneArg ∷ []) rest.now depth e) }
 {
-    match past(rest, Mark::SquareOpen) {
+    match past(rest, TokenMark::SquareOpen) {
         Some(after) if depth < MAX_OPEN => bracket(alloc, after, depth),
-        Some(_) => Err(Fault::At(rest)),
+        Some(_) => Err(ReadingFault::At(rest)),
         None => {
             let (text, after) = word_here(rest, depth)?;
             let word = Word::new(alloc, text)?;
@@ -62,13 +66,17 @@ pub fn arg<'a>(alloc: Global, rest: &'a [Token], depth: u8) -> Result<(Arg, &'a 
 
 /// Reads what stands after an opening bracket, which is not counted in depth.
 #[cycle(args)]
-fn bracket<'a>(alloc: Global, rest: &'a [Token], depth: u8) -> Result<(Arg, &'a [Token]), Fault<'a>>
+fn bracket<'a>(
+    alloc: Global,
+    rest: &'a [Token],
+    depth: u8,
+) -> Result<(Arg, &'a [Token]), ReadingFault<'a>>
     requires { depth < 64 }
     ensures { MatchResult result (λ r. Completes (spelling.Key marks.SquareOpen ∷ []) in_brackets rest.now depth (arg_syms r.0) r.1.now) (EndsBy in_brackets rest.now depth) }
 {
     let (inner, after) = inside(alloc, rest, depth + 1)?;
     let inner = Box::new(alloc, inner)?;
-    let after = key_here(after, Mark::SquareClose, depth)?;
+    let after = key_here(after, TokenMark::SquareClose, depth)?;
     Ok((Arg::Bracket(inner), after))
 }
 
@@ -78,13 +86,13 @@ fn inside<'a>(
     alloc: Global,
     rest: &'a [Token],
     depth: u8,
-) -> Result<(Inner, &'a [Token]), Fault<'a>>
+) -> Result<(Inner, &'a [Token]), ReadingFault<'a>>
     requires { depth ≤ 64 }
     ensures { MatchResult result (λ r. IsRead (OneInner ∷ []) rest.now depth (inner_syms r.0) r.1.now) (λ e. EndsBy (OneInner ∷ []) rest.now depth e) }
 {
-    match past(rest, Mark::On) {
+    match past(rest, TokenMark::On) {
         Some(after) if depth < MAX_OPEN => on_inside(alloc, after, depth + 1),
-        Some(_) => Err(Fault::At(rest)),
+        Some(_) => Err(ReadingFault::At(rest)),
         None => call_inside(alloc, rest, depth),
     }
 }
@@ -95,7 +103,7 @@ fn call_inside<'a>(
     alloc: Global,
     rest: &'a [Token],
     depth: u8,
-) -> Result<(Inner, &'a [Token]), Fault<'a>>
+) -> Result<(Inner, &'a [Token]), ReadingFault<'a>>
     requires { depth ≤ 64 }
     ensures { MatchResult result (λ r. IsRead (OneArg ∷ Args ∷ More 8 ∷ []) rest.now depth (inner_syms r.0) r.1.now) (λ e. EndsBy (OneArg ∷ Args ∷ More 8 ∷ []) rest.now depth e) }
 {
@@ -110,12 +118,12 @@ fn on_inside<'a>(
     alloc: Global,
     rest: &'a [Token],
     depth: u8,
-) -> Result<(Inner, &'a [Token]), Fault<'a>>
+) -> Result<(Inner, &'a [Token]), ReadingFault<'a>>
     requires { depth ≤ 64 }
     ensures { ReadsOn result (spelling.Key marks.On ∷ []) (OneArg ∷ InnerTail ∷ []) rest.now depth (λ r. inner_syms r.0) (λ r. r.1.now) }
 {
     let (target, after) = arg(alloc, rest, depth)?;
-    match past(after, Mark::Return) {
+    match past(after, TokenMark::Return) {
         Some(after) => {
             let (value, after) = args(alloc, after, depth)?;
             Ok((Inner::OnReturn { target, value }, after))
@@ -134,7 +142,7 @@ pub fn args<'a>(
     alloc: Global,
     rest: &'a [Token],
     depth: u8,
-) -> Result<(Vec<Arg>, &'a [Token]), Fault<'a>>
+) -> Result<(Vec<Arg>, &'a [Token]), ReadingFault<'a>>
     requires { depth ≤ 64 }
     ensures { MatchResult result (λ r. IsRead (Args ∷ []) rest.now depth (args_syms r.0.items) r.1.now) (λ e. EndsBy (Args ∷ []) rest.now depth e) }
 {
@@ -153,7 +161,7 @@ fn further<'a>(rest: &'a [Token], count: usize) -> Option<&'a [Token]>
     ensures { MatchOption result (count < 9 → starts_with marks.Colon rest.now ≡ false) (λ after. (count < 9) × StandsAfter marks.Colon rest.now after.now) }
 {
     if count < MAX_LISTS {
-        past(rest, Mark::Colon)
+        past(rest, TokenMark::Colon)
     } else {
         None
     }
@@ -165,7 +173,7 @@ pub fn lists<'a>(
     alloc: Global,
     rest: &'a [Token],
     depth: u8,
-) -> Result<(Vec<Vec<Arg>>, &'a [Token]), Fault<'a>>
+) -> Result<(Vec<Vec<Arg>>, &'a [Token]), ReadingFault<'a>>
     requires { depth ≤ 64 }
     ensures { MatchResult result (λ r. IsRead (Args ∷ More 8 ∷ []) rest.now depth (lists_syms r.0.items) r.1.now) (λ e. EndsBy (Args ∷ More 8 ∷ []) rest.now depth e) }
 {

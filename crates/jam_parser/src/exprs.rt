@@ -2,14 +2,14 @@
 ghost use Rattle.std.specs.Prelude.{◌≡◌, ◌<◌, ◌≤◌, ◌∷◌, [], false, MatchResult};
 ghost use Rattle.jam_grammar.specs.Spelling.{Anywhere, WithinOr, WithinAnd, expr_syms, arg_syms};
 ghost use Rattle.jam_grammar.specs.Grammar.{OneExpr, Both, Single, OneArg, Compared, Args};
-ghost use Rattle.jam_grammar.specs.declared.mark.Mark.TheVariants as marks;
+ghost use Rattle.jam_grammar.specs.declared.mark.TokenMark.TheVariants as marks;
 ghost use Rattle.jam_parser.specs.Starts.{starts_with};
-ghost use Rattle.jam_parser.specs.Parts.{IsRead, EndsBy, ReadsOn, after_or, after_and, in_parens, with_sign};
+ghost use Rattle.jam_parser.specs.PartReadings.{IsRead, EndsBy, ReadsOn, after_or, after_and, in_parens, with_sign};
 
 use crate::args::{MAX_OPEN, arg, args};
-use crate::reading::{Fault, key_here, past};
+use crate::reading::{ReadingFault, key_here, past};
 use b2_base::token::Token;
-use jam_grammar::mark::Mark;
+use jam_grammar::mark::TokenMark;
 use jam_grammar::tree::{Arg, Expr};
 use std::alloc::Global;
 
@@ -19,12 +19,12 @@ pub fn expr<'a>(
     alloc: Global,
     rest: &'a [Token],
     depth: u8,
-) -> Result<(Expr, &'a [Token]), Fault<'a>>
+) -> Result<(Expr, &'a [Token]), ReadingFault<'a>>
     requires { depth ≤ 64 }
     ensures { MatchResult result (λ r. IsRead (OneExpr ∷ []) rest.now depth (expr_syms Anywhere r.0) r.1.now) (λ e. EndsBy (OneExpr ∷ []) rest.now depth e) }
 {
     let (first, after) = both(alloc, rest, depth)?;
-    match past(after, Mark::Or) {
+    match past(after, TokenMark::Or) {
         Some(right) => {
             let (whole, after) = or_rest(alloc, first, right, depth)?;
             Ok((whole, after))
@@ -40,7 +40,7 @@ fn or_rest<'a>(
     first: Expr,
     rest: &'a [Token],
     depth: u8,
-) -> Result<(Expr, &'a [Token]), Fault<'a>>
+) -> Result<(Expr, &'a [Token]), ReadingFault<'a>>
     requires { depth ≤ 64 }
     ensures { ReadsOn result (with_sign (expr_syms WithinOr first) marks.Or) after_or rest.now depth (λ r. expr_syms Anywhere r.0) (λ r. r.1.now) }
 {
@@ -50,7 +50,7 @@ fn or_rest<'a>(
     'each: loop {
         let (one, after) = both(alloc, left, depth)?;
         members.push(one)?;
-        match past(after, Mark::Or) {
+        match past(after, TokenMark::Or) {
             Some(right) => left = right,
             None => return Ok((Expr::Or(members), after)),
         }
@@ -59,12 +59,16 @@ fn or_rest<'a>(
 
 /// Reads a condition without `||`.
 #[cycle(exprs)]
-fn both<'a>(alloc: Global, rest: &'a [Token], depth: u8) -> Result<(Expr, &'a [Token]), Fault<'a>>
+fn both<'a>(
+    alloc: Global,
+    rest: &'a [Token],
+    depth: u8,
+) -> Result<(Expr, &'a [Token]), ReadingFault<'a>>
     requires { depth ≤ 64 }
     ensures { MatchResult result (λ r. IsRead (Both ∷ []) rest.now depth (expr_syms WithinOr r.0) r.1.now) (λ e. EndsBy (Both ∷ []) rest.now depth e) }
 {
     let (first, after) = single(alloc, rest, depth)?;
-    match past(after, Mark::And) {
+    match past(after, TokenMark::And) {
         Some(right) => {
             let (whole, after) = and_rest(alloc, first, right, depth)?;
             Ok((whole, after))
@@ -80,7 +84,7 @@ fn and_rest<'a>(
     first: Expr,
     rest: &'a [Token],
     depth: u8,
-) -> Result<(Expr, &'a [Token]), Fault<'a>>
+) -> Result<(Expr, &'a [Token]), ReadingFault<'a>>
     requires { depth ≤ 64 }
     ensures { ReadsOn result (with_sign (expr_syms WithinAnd first) marks.And) after_and rest.now depth (λ r. expr_syms WithinOr r.0) (λ r. r.1.now) }
 {
@@ -90,7 +94,7 @@ fn and_rest<'a>(
     'each: loop {
         let (one, after) = single(alloc, left, depth)?;
         members.push(one)?;
-        match past(after, Mark::And) {
+        match past(after, TokenMark::And) {
             Some(right) => left = right,
             None => return Ok((Expr::And(members), after)),
         }
@@ -99,13 +103,17 @@ fn and_rest<'a>(
 
 /// Reads a condition without `||` and `&&`.
 #[cycle(exprs)]
-fn single<'a>(alloc: Global, rest: &'a [Token], depth: u8) -> Result<(Expr, &'a [Token]), Fault<'a>>
+fn single<'a>(
+    alloc: Global,
+    rest: &'a [Token],
+    depth: u8,
+) -> Result<(Expr, &'a [Token]), ReadingFault<'a>>
     requires { depth ≤ 64 }
     ensures { MatchResult result (λ r. IsRead (Single ∷ []) rest.now depth (expr_syms WithinAnd r.0) r.1.now) (λ e. EndsBy (Single ∷ []) rest.now depth e) }
 {
-    match past(rest, Mark::Not) {
+    match past(rest, TokenMark::Not) {
         Some(after) if depth < MAX_OPEN => negated(alloc, after, depth + 1),
-        Some(_) => Err(Fault::At(rest)),
+        Some(_) => Err(ReadingFault::At(rest)),
         None => positive(alloc, rest, depth),
     }
 }
@@ -116,7 +124,7 @@ fn negated<'a>(
     alloc: Global,
     rest: &'a [Token],
     depth: u8,
-) -> Result<(Expr, &'a [Token]), Fault<'a>>
+) -> Result<(Expr, &'a [Token]), ReadingFault<'a>>
     requires { depth ≤ 64 }
     ensures { ReadsOn result (with_sign [] marks.Not) (Single ∷ []) rest.now depth (λ r. expr_syms WithinAnd r.0) (λ r. r.1.now) }
 {
@@ -131,27 +139,31 @@ fn positive<'a>(
     alloc: Global,
     rest: &'a [Token],
     depth: u8,
-) -> Result<(Expr, &'a [Token]), Fault<'a>>
+) -> Result<(Expr, &'a [Token]), ReadingFault<'a>>
     requires capped { depth ≤ 64 }
     requires no_not { starts_with marks.Not rest.now ≡ false }
     ensures { MatchResult result (λ r. IsRead (Single ∷ []) rest.now depth (expr_syms WithinAnd r.0) r.1.now) (λ e. EndsBy (Single ∷ []) rest.now depth e) }
 {
-    match past(rest, Mark::ParenOpen) {
+    match past(rest, TokenMark::ParenOpen) {
         Some(after) if depth < MAX_OPEN => group(alloc, after, depth),
-        Some(_) => Err(Fault::At(rest)),
+        Some(_) => Err(ReadingFault::At(rest)),
         None => operand(alloc, rest, depth),
     }
 }
 
 /// Reads what stands after an opening parenthesis, which is not counted in depth.
 #[cycle(exprs)]
-fn group<'a>(alloc: Global, rest: &'a [Token], depth: u8) -> Result<(Expr, &'a [Token]), Fault<'a>>
+fn group<'a>(
+    alloc: Global,
+    rest: &'a [Token],
+    depth: u8,
+) -> Result<(Expr, &'a [Token]), ReadingFault<'a>>
     requires { depth < 64 }
     ensures { ReadsOn result (with_sign [] marks.ParenOpen) in_parens rest.now depth (λ r. expr_syms WithinAnd r.0) (λ r. r.1.now) }
 {
     let (inner, after) = expr(alloc, rest, depth + 1)?;
     let inner = Box::new(alloc, inner)?;
-    let after = key_here(after, Mark::ParenClose, depth)?;
+    let after = key_here(after, TokenMark::ParenClose, depth)?;
     Ok((Expr::Group(inner), after))
 }
 
@@ -160,7 +172,7 @@ fn operand<'a>(
     alloc: Global,
     rest: &'a [Token],
     depth: u8,
-) -> Result<(Expr, &'a [Token]), Fault<'a>>
+) -> Result<(Expr, &'a [Token]), ReadingFault<'a>>
     requires { depth ≤ 64 }
     ensures { MatchResult result (λ r. IsRead (OneArg ∷ Compared ∷ []) rest.now depth (expr_syms WithinAnd r.0) r.1.now) (λ e. EndsBy (OneArg ∷ Compared ∷ []) rest.now depth e) }
 {
@@ -175,17 +187,17 @@ fn compared<'a>(
     left: Arg,
     rest: &'a [Token],
     depth: u8,
-) -> Result<(Expr, &'a [Token]), Fault<'a>>
+) -> Result<(Expr, &'a [Token]), ReadingFault<'a>>
     requires { depth ≤ 64 }
     ensures { ReadsOn result (arg_syms left) (Compared ∷ []) rest.now depth (λ r. expr_syms WithinAnd r.0) (λ r. r.1.now) }
 {
-    if let Some(after) = past(rest, Mark::Equals) {
+    if let Some(after) = past(rest, TokenMark::Equals) {
         return equal(alloc, left, after, depth);
     }
-    if let Some(after) = past(rest, Mark::NotEquals) {
+    if let Some(after) = past(rest, TokenMark::NotEquals) {
         return differ(alloc, left, after, depth);
     }
-    match past(rest, Mark::In) {
+    match past(rest, TokenMark::In) {
         Some(after) => within(alloc, left, after, depth),
         None => Ok((Expr::Bare(left), rest)),
     }
@@ -197,7 +209,7 @@ fn equal<'a>(
     left: Arg,
     rest: &'a [Token],
     depth: u8,
-) -> Result<(Expr, &'a [Token]), Fault<'a>>
+) -> Result<(Expr, &'a [Token]), ReadingFault<'a>>
     requires { depth ≤ 64 }
     ensures { ReadsOn result (with_sign (arg_syms left) marks.Equals) (OneArg ∷ []) rest.now depth (λ r. expr_syms WithinAnd r.0) (λ r. r.1.now) }
 {
@@ -211,7 +223,7 @@ fn differ<'a>(
     left: Arg,
     rest: &'a [Token],
     depth: u8,
-) -> Result<(Expr, &'a [Token]), Fault<'a>>
+) -> Result<(Expr, &'a [Token]), ReadingFault<'a>>
     requires { depth ≤ 64 }
     ensures { ReadsOn result (with_sign (arg_syms left) marks.NotEquals) (OneArg ∷ []) rest.now depth (λ r. expr_syms WithinAnd r.0) (λ r. r.1.now) }
 {
@@ -225,7 +237,7 @@ fn within<'a>(
     left: Arg,
     rest: &'a [Token],
     depth: u8,
-) -> Result<(Expr, &'a [Token]), Fault<'a>>
+) -> Result<(Expr, &'a [Token]), ReadingFault<'a>>
     requires { depth ≤ 64 }
     ensures { ReadsOn result (with_sign (arg_syms left) marks.In) (Args ∷ []) rest.now depth (λ r. expr_syms WithinAnd r.0) (λ r. r.1.now) }
 {

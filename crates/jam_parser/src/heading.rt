@@ -2,12 +2,12 @@
 ghost use Rattle.std.specs.Prelude.{◌≡◌, ◌∷◌, [], MatchOption, MatchResult};
 ghost use Rattle.jam_parser.specs.Starts.{starts_word};
 ghost use Rattle.jam_parser.specs.Headings.{heading_of, head_syms, unless, switched, GoesOn, NoModifier};
-ghost use Rattle.jam_parser.specs.Parts.{IsRead, EndsBy};
+ghost use Rattle.jam_parser.specs.PartReadings.{IsRead, EndsBy};
 
-use crate::reading::{Fault, next_of, word_of};
+use crate::reading::{ReadingFault, next_of, word_of};
 use b2_base::text::Text;
 use b2_base::token::Token;
-use jam_grammar::mark::Mark;
+use jam_grammar::mark::TokenMark;
 
 /// Which modifiers of actions have stood.
 #[derive(Clone, Copy)]
@@ -25,25 +25,25 @@ fn unless(stood: bool, more: Modes) -> Option<Modes>
 }
 
 /// The modifiers with the one of this mark, if it is one and has not stood.
-fn switched(stood: Modes, mark: Mark) -> Option<Modes>
+fn switched(stood: Modes, mark: TokenMark) -> Option<Modes>
     ensures { result ≡ switched stood.together stood.existing stood.quietly mark }
 {
     match mark {
-        Mark::Together => unless(
+        TokenMark::Together => unless(
             stood.together,
             Modes {
                 together: true,
                 ..stood
             },
         ),
-        Mark::Existing => unless(
+        TokenMark::Existing => unless(
             stood.existing,
             Modes {
                 existing: true,
                 ..stood
             },
         ),
-        Mark::Quietly => unless(
+        TokenMark::Quietly => unless(
             stood.quietly,
             Modes {
                 quietly: true,
@@ -83,14 +83,14 @@ pub fn heading<'a>(
     rest: &'a [Token],
     stood: Modes,
     depth: u8,
-) -> Result<(Modes, Text, &'a [Token]), Fault<'a>>
+) -> Result<(Modes, Text, &'a [Token]), ReadingFault<'a>>
     ensures { MatchResult result (λ r. IsRead (heading_of stood ∷ []) rest.now depth (head_syms stood r.0 r.1) r.2.now) (λ e. EndsBy (heading_of stood ∷ []) rest.now depth e) }
 {
     match modifier(rest, stood) {
         Some((more, after)) => heading(after, more, depth),
         None => match word_of(rest) {
             Some((first, after)) => Ok((stood, first.text.copy()?, after)),
-            None => Err(Fault::At(rest)),
+            None => Err(ReadingFault::At(rest)),
         },
     }
 }

@@ -3,17 +3,17 @@ ghost use Rattle.std.specs.Prelude.{◌≡◌, ℕ, ◌∷◌, [], true, false, 
 ghost use Rattle.jam_grammar.specs.Spelling.{mark_syms, plist_syms};
 ghost use Rattle.jam_grammar.specs.Grammar.{Params, Names, NameTail};
 ghost use Rattle.jam_grammar.specs.Marks.{mark_of_token, is_name};
-ghost use Rattle.jam_grammar.specs.declared.mark.Mark.TheVariants as marks;
+ghost use Rattle.jam_grammar.specs.declared.mark.TokenMark.TheVariants as marks;
 ghost use Rattle.jam_parser.specs.Starts.{starts_name, starts_with, StandsAfter};
-ghost use Rattle.jam_parser.specs.Parts.{IsRead, ComesTo, EndsBy};
+ghost use Rattle.jam_parser.specs.PartReadings.{IsRead, ComesTo, EndsBy};
 ghost use Rattle.jam_parser.specs.Params.{after_name, after_list, params_read};
 ghost use Rattle.jam_grammar.specs.Trees.{lists_of};
 
-use crate::reading::{Fault, next_of, past};
+use crate::reading::{ReadingFault, next_of, past};
 use b2_base::fault::OutOfMemory;
 use b2_base::text::Text;
 use b2_base::token::Token;
-use jam_grammar::mark::Mark;
+use jam_grammar::mark::TokenMark;
 use jam_grammar::tree::Param;
 use std::alloc::Global;
 
@@ -22,8 +22,13 @@ fn next_name<'a>(rest: &'a [Token], may_come: bool) -> Option<(&'a Token, &'a [T
     ensures { MatchOption result (may_come ≡ true → starts_name rest.now ≡ false) (λ next. (may_come ≡ true) × (rest.now ≡ next.0.now ∷ next.1.now) × IsTrue (is_name (mark_of_token next.0.now))) }
 {
     match next_of(rest) {
-        Some((Mark::Plain | Mark::Together | Mark::Existing | Mark::Quietly, first, after))
-            if may_come => Some((first, after)),
+        Some(
+            (
+                TokenMark::Plain | TokenMark::Together | TokenMark::Existing | TokenMark::Quietly,
+                first,
+                after,
+            ),
+        ) if may_come => Some((first, after)),
         _ => None,
     }
 }
@@ -33,9 +38,9 @@ fn mark_after(rest: &[Token]) -> (Option<char>, bool, &[Token])
     ensures { (depth : ℕ) → ComesTo (NameTail ∷ []) (after_name result.1) rest.now depth (mark_syms result.0) result.2.now }
 {
     match next_of(rest) {
-        Some((Mark::Query, _, after)) => (Some('?'), true, after),
-        Some((Mark::Star, _, after)) => (Some('*'), false, after),
-        Some((Mark::Plus, _, after)) => (Some('+'), false, after),
+        Some((TokenMark::Query, _, after)) => (Some('?'), true, after),
+        Some((TokenMark::Star, _, after)) => (Some('*'), false, after),
+        Some((TokenMark::Plus, _, after)) => (Some('+'), false, after),
         _ => (None, true, rest),
     }
 }
@@ -69,7 +74,7 @@ fn list<'a>(
 ) -> Result<(Vec<Param>, bool, &'a [Token]), OutOfMemory>
     ensures { MatchResult result (λ r. ComesTo (Params ∷ []) (after_list r.1) rest.now depth (plist_syms r.0.items) r.2.now) (λ e. Unit {0}) }
 {
-    match past(rest, Mark::Star) {
+    match past(rest, TokenMark::Star) {
         Some(after) => {
             let mut found = Vec::new(alloc);
             let name = Text::new(alloc, "*")?;
@@ -87,7 +92,11 @@ fn list<'a>(
 fn further<'a>(rest: &'a [Token], last: bool) -> Option<&'a [Token]>
     ensures { MatchOption result (last ≡ false → starts_with marks.Colon rest.now ≡ false) (λ after. (last ≡ false) × StandsAfter marks.Colon rest.now after.now) }
 {
-    if last { None } else { past(rest, Mark::Colon) }
+    if last {
+        None
+    } else {
+        past(rest, TokenMark::Colon)
+    }
 }
 
 /// Reads the lists of parameters between parentheses.
@@ -95,7 +104,7 @@ pub fn params<'a>(
     alloc: Global,
     rest: &'a [Token],
     depth: u8,
-) -> Result<(Vec<Vec<Param>>, &'a [Token]), Fault<'a>>
+) -> Result<(Vec<Vec<Param>>, &'a [Token]), ReadingFault<'a>>
     ensures { MatchResult result (λ r. IsRead (Params ∷ []) rest.now depth (params_read (lists_of r.0.items)) r.1.now) (λ e. EndsBy (Params ∷ []) rest.now depth e) }
 {
     let mut found = Vec::new(alloc);

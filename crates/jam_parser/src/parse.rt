@@ -4,7 +4,7 @@ ghost use Rattle.jam_grammar.specs.Readings.{Reads, last_line};
 ghost use Rattle.jam_parser.specs.Faults.{IsFault, IsFaultHere, IsToldAt};
 
 use crate::fault::SyntaxFault;
-use crate::reading::{Fault, next_of};
+use crate::reading::{ReadingFault, next_of};
 use crate::stmts::stmts;
 use b2_base::text::Text;
 use b2_base::token::Token;
@@ -18,13 +18,13 @@ pub fn parse(alloc: Global, tokens: &[Token]) -> Result<Tree, SyntaxFault>
 {
     match whole(alloc, tokens) {
         Ok(tree) => Ok(tree),
-        Err(Fault::Memory) => Err(SyntaxFault::OutOfMemory),
-        Err(Fault::At(rest)) => Err(told(alloc, tokens, rest)),
+        Err(ReadingFault::Memory) => Err(SyntaxFault::OutOfMemory),
+        Err(ReadingFault::At(rest)) => Err(told(alloc, tokens, rest)),
     }
 }
 
 /// Reads all tokens as statements.
-fn whole<'a>(alloc: Global, tokens: &'a [Token]) -> Result<Tree, Fault<'a>>
+fn whole<'a>(alloc: Global, tokens: &'a [Token]) -> Result<Tree, ReadingFault<'a>>
     ensures { MatchResult result (λ tree. Reads tokens.now tree) (λ fault. IsFaultHere tokens.now fault) }
 {
     let (stmts, left) = stmts(alloc, tokens, 0)?;
@@ -32,7 +32,7 @@ fn whole<'a>(alloc: Global, tokens: &'a [Token]) -> Result<Tree, Fault<'a>>
         None => Ok(Tree {
             block: Block { stmts },
         }),
-        Some(_) => Err(Fault::At(left)),
+        Some(_) => Err(ReadingFault::At(left)),
     }
 }
 

@@ -5,7 +5,7 @@ ghost use Rattle.jam_parser.specs.Begins.{IsStart};
 
 use crate::reading::next_of;
 use b2_base::token::Token;
-use jam_grammar::mark::Mark;
+use jam_grammar::mark::TokenMark;
 
 /// What a statement begins with, and what stands after the key.
 #[derive(Drop)]
@@ -33,44 +33,44 @@ pub fn start_of(rest: &[Token]) -> Start<'_>
     match next_of(rest) {
         None => Start::Nothing,
         Some((mark, _, after)) => match mark {
-            Mark::Plain
-            | Mark::Query
-            | Mark::Star
-            | Mark::Plus
-            | Mark::Together
-            | Mark::Existing
-            | Mark::Quietly
-            | Mark::SquareOpen => Start::Argument,
-            Mark::BraceOpen => Start::Brace,
-            Mark::Local => Start::Local(after),
-            Mark::Include => Start::Include(after),
-            Mark::Return => Start::Return(after),
-            Mark::If => Start::If(after),
-            Mark::For => Start::For(after),
-            Mark::While => Start::While(after),
-            Mark::Switch => Start::Switch(after),
-            Mark::Module => Start::Module(after),
-            Mark::Rule => Start::Rule(after),
-            Mark::Actions => Start::Actions(after),
-            Mark::On => Start::On(after),
-            Mark::Body
-            | Mark::Semicolon
-            | Mark::Colon
-            | Mark::BraceClose
-            | Mark::SquareClose
-            | Mark::ParenOpen
-            | Mark::ParenClose
-            | Mark::Equals
-            | Mark::PlusEquals
-            | Mark::QueryEquals
-            | Mark::NotEquals
-            | Mark::Not
-            | Mark::And
-            | Mark::Or
-            | Mark::Case
-            | Mark::Else
-            | Mark::In
-            | Mark::Unknown => Start::Nothing,
+            TokenMark::Plain
+            | TokenMark::Query
+            | TokenMark::Star
+            | TokenMark::Plus
+            | TokenMark::Together
+            | TokenMark::Existing
+            | TokenMark::Quietly
+            | TokenMark::SquareOpen => Start::Argument,
+            TokenMark::BraceOpen => Start::Brace,
+            TokenMark::Local => Start::Local(after),
+            TokenMark::Include => Start::Include(after),
+            TokenMark::Return => Start::Return(after),
+            TokenMark::If => Start::If(after),
+            TokenMark::For => Start::For(after),
+            TokenMark::While => Start::While(after),
+            TokenMark::Switch => Start::Switch(after),
+            TokenMark::Module => Start::Module(after),
+            TokenMark::Rule => Start::Rule(after),
+            TokenMark::Actions => Start::Actions(after),
+            TokenMark::On => Start::On(after),
+            TokenMark::Body
+            | TokenMark::Semicolon
+            | TokenMark::Colon
+            | TokenMark::BraceClose
+            | TokenMark::SquareClose
+            | TokenMark::ParenOpen
+            | TokenMark::ParenClose
+            | TokenMark::Equals
+            | TokenMark::PlusEquals
+            | TokenMark::QueryEquals
+            | TokenMark::NotEquals
+            | TokenMark::Not
+            | TokenMark::And
+            | TokenMark::Or
+            | TokenMark::Case
+            | TokenMark::Else
+            | TokenMark::In
+            | TokenMark::Unknown => Start::Nothing,
         },
     }
 }

@@ -4,18 +4,18 @@ ghost use Rattle.jam_grammar.specs.Trees.{form_tree};
 ghost use Rattle.jam_grammar.specs.Spelling.{stmt_syms, stmts_syms, form_syms, block_syms, braced, case_syms, cases_syms, other_syms, local_syms, is_if, only};
 ghost use Rattle.jam_grammar.specs.Spelling as spelling;
 ghost use Rattle.jam_grammar.specs.Grammar.{Stmts, OneStmt, OneBlock, OneExpr, OneElse, ElseTail, ForTail, RuleTail, CaseBlock, Cases, OneWord, OneArg, Args, Key};
-ghost use Rattle.jam_grammar.specs.declared.mark.Mark.TheVariants as marks;
-ghost use Rattle.jam_parser.specs.Parts.{IsRead, EndsBy, Reads, ReadsOn, after_params};
+ghost use Rattle.jam_grammar.specs.declared.mark.TokenMark.TheVariants as marks;
+ghost use Rattle.jam_parser.specs.PartReadings.{IsRead, EndsBy, Reads, ReadsOn, after_params};
 
 use crate::args::{MAX_OPEN, arg, args};
 use crate::exprs::expr;
 use crate::params::params;
-use crate::reading::{Fault, key_here, next_of, past, word_here};
+use crate::reading::{ReadingFault, key_here, next_of, past, word_here};
 use crate::simple::{actions, by_arg, include, local, returned};
 use crate::start::{Start, at_stmt, line_of, start_of};
 use b2_base::text::Text;
 use b2_base::token::Token;
-use jam_grammar::mark::Mark;
+use jam_grammar::mark::TokenMark;
 use jam_grammar::tree::{Block, Case, Form, Other, Stmt};
 use std::alloc::Global;
 use std::rc::Rc;
@@ -26,7 +26,7 @@ pub fn stmts<'a>(
     alloc: Global,
     rest: &'a [Token],
     depth: u8,
-) -> Result<(Vec<Stmt>, &'a [Token]), Fault<'a>>
+) -> Result<(Vec<Stmt>, &'a [Token]), ReadingFault<'a>>
     requires { depth ≤ 64 }
     ensures { MatchResult result (λ r. IsRead (Stmts ∷ []) rest.now depth (stmts_syms r.0.items) r.1.now) (λ e. EndsBy (Stmts ∷ []) rest.now depth e) }
 {
@@ -42,7 +42,11 @@ pub fn stmts<'a>(
 
 /// Reads a statement with its line.
 #[cycle(stmts)]
-fn stmt<'a>(alloc: Global, rest: &'a [Token], depth: u8) -> Result<(Stmt, &'a [Token]), Fault<'a>>
+fn stmt<'a>(
+    alloc: Global,
+    rest: &'a [Token],
+    depth: u8,
+) -> Result<(Stmt, &'a [Token]), ReadingFault<'a>>
     requires { depth ≤ 64 }
     ensures { MatchResult result (λ r. IsRead (OneStmt ∷ []) rest.now depth (stmt_syms r.0) r.1.now) (λ e. EndsBy (OneStmt ∷ []) rest.now depth e) }
 {
@@ -57,13 +61,17 @@ fn stmt<'a>(alloc: Global, rest: &'a [Token], depth: u8) -> Result<(Stmt, &'a [T
                 after,
             ))
         }
-        None => Err(Fault::At(rest)),
+        None => Err(ReadingFault::At(rest)),
     }
 }
 
 /// Reads what a statement says.
 #[cycle(stmts)]
-fn form<'a>(alloc: Global, rest: &'a [Token], depth: u8) -> Result<(Form, &'a [Token]), Fault<'a>>
+fn form<'a>(
+    alloc: Global,
+    rest: &'a [Token],
+    depth: u8,
+) -> Result<(Form, &'a [Token]), ReadingFault<'a>>
     requires { depth ≤ 64 }
     ensures { MatchResult result (λ r. IsRead (OneStmt ∷ []) rest.now depth (form_syms r.0) r.1.now) (λ e. EndsBy (OneStmt ∷ []) rest.now depth e) }
 {
@@ -81,29 +89,37 @@ fn form<'a>(alloc: Global, rest: &'a [Token], depth: u8) -> Result<(Form, &'a [T
         Start::Rule(after) if depth < MAX_OPEN => rule_form(alloc, after, depth),
         Start::Actions(after) if depth < MAX_OPEN => actions(after, depth),
         Start::On(after) if depth < MAX_OPEN => on_form(alloc, after, depth + 1),
-        _ => Err(Fault::At(rest)),
+        _ => Err(ReadingFault::At(rest)),
     }
 }
 
 /// Reads a block in braces.
 #[cycle(stmts)]
-fn block<'a>(alloc: Global, rest: &'a [Token], depth: u8) -> Result<(Block, &'a [Token]), Fault<'a>>
+fn block<'a>(
+    alloc: Global,
+    rest: &'a [Token],
+    depth: u8,
+) -> Result<(Block, &'a [Token]), ReadingFault<'a>>
     requires { depth ≤ 64 }
     ensures { MatchResult result (λ r. IsRead (OneBlock ∷ []) rest.now depth (braced (block_syms r.0)) r.1.now) (λ e. EndsBy (OneBlock ∷ []) rest.now depth e) }
 {
-    match past(rest, Mark::BraceOpen) {
+    match past(rest, TokenMark::BraceOpen) {
         Some(after) if depth < MAX_OPEN => {
             let (stmts, after) = stmts(alloc, after, depth + 1)?;
-            let after = key_here(after, Mark::BraceClose, depth)?;
+            let after = key_here(after, TokenMark::BraceClose, depth)?;
             Ok((Block { stmts }, after))
         }
-        _ => Err(Fault::At(rest)),
+        _ => Err(ReadingFault::At(rest)),
     }
 }
 
 /// Reads a block that is a statement.
 #[cycle(stmts)]
-fn braces<'a>(alloc: Global, rest: &'a [Token], depth: u8) -> Result<(Form, &'a [Token]), Fault<'a>>
+fn braces<'a>(
+    alloc: Global,
+    rest: &'a [Token],
+    depth: u8,
+) -> Result<(Form, &'a [Token]), ReadingFault<'a>>
     requires { depth ≤ 64 }
     ensures { MatchResult result (λ r. IsRead (OneBlock ∷ []) rest.now depth (form_syms r.0) r.1.now) (λ e. EndsBy (OneBlock ∷ []) rest.now depth e) }
 {
@@ -117,7 +133,7 @@ fn if_form<'a>(
     alloc: Global,
     rest: &'a [Token],
     depth: u8,
-) -> Result<(Form, &'a [Token]), Fault<'a>>
+) -> Result<(Form, &'a [Token]), ReadingFault<'a>>
     requires { depth < 64 }
     ensures { ReadsOn result (spelling.Key marks.If ∷ []) (OneExpr ∷ OneBlock ∷ OneElse ∷ []) rest.now depth (λ r. only (is_if (form_tree r.0)) (form_syms r.0)) (λ r. r.1.now) }
 {
@@ -137,7 +153,7 @@ fn branches<'a>(
     alloc: Global,
     rest: &'a [Token],
     depth: u8,
-) -> Result<(Block, Other, &'a [Token]), Fault<'a>>
+) -> Result<(Block, Other, &'a [Token]), ReadingFault<'a>>
     requires { depth < 64 }
     ensures { Reads result (OneBlock ∷ OneElse ∷ []) rest.now depth (λ r. braced (block_syms r.0) ++ other_syms r.1) (λ r. r.2.now) }
 {
@@ -148,11 +164,15 @@ fn branches<'a>(
 
 /// Reads what may follow on the block of an `if`.
 #[cycle(stmts)]
-fn other<'a>(alloc: Global, rest: &'a [Token], depth: u8) -> Result<(Other, &'a [Token]), Fault<'a>>
+fn other<'a>(
+    alloc: Global,
+    rest: &'a [Token],
+    depth: u8,
+) -> Result<(Other, &'a [Token]), ReadingFault<'a>>
     requires { depth < 64 }
     ensures { MatchResult result (λ r. IsRead (OneElse ∷ []) rest.now depth (other_syms r.0) r.1.now) (λ e. EndsBy (OneElse ∷ []) rest.now depth e) }
 {
-    match past(rest, Mark::Else) {
+    match past(rest, TokenMark::Else) {
         Some(after) => else_tail(alloc, after, depth),
         None => Ok((Other::Nothing, rest)),
     }
@@ -164,13 +184,13 @@ fn else_tail<'a>(
     alloc: Global,
     rest: &'a [Token],
     depth: u8,
-) -> Result<(Other, &'a [Token]), Fault<'a>>
+) -> Result<(Other, &'a [Token]), ReadingFault<'a>>
     requires { depth < 64 }
     ensures { ReadsOn result (spelling.Key marks.Else ∷ []) (ElseTail ∷ []) rest.now depth (λ r. other_syms r.0) (λ r. r.1.now) }
 {
-    match past(rest, Mark::If) {
+    match past(rest, TokenMark::If) {
         Some(after) if depth + 1 < MAX_OPEN => else_if(alloc, line_of(rest), after, depth + 1),
-        Some(_) => Err(Fault::At(rest)),
+        Some(_) => Err(ReadingFault::At(rest)),
         None => {
             let (block, after) = block(alloc, rest, depth)?;
             Ok((Other::Braces(block), after))
@@ -185,7 +205,7 @@ fn else_if<'a>(
     line: u32,
     rest: &'a [Token],
     depth: u8,
-) -> Result<(Other, &'a [Token]), Fault<'a>>
+) -> Result<(Other, &'a [Token]), ReadingFault<'a>>
     requires { depth < 64 }
     ensures { ReadsOn result (spelling.Key marks.Else ∷ spelling.From line ∷ spelling.Key marks.If ∷ []) (OneExpr ∷ OneBlock ∷ OneElse ∷ []) rest.now depth (λ r. other_syms r.0) (λ r. r.1.now) }
 {
@@ -200,11 +220,11 @@ fn for_form<'a>(
     alloc: Global,
     rest: &'a [Token],
     depth: u8,
-) -> Result<(Form, &'a [Token]), Fault<'a>>
+) -> Result<(Form, &'a [Token]), ReadingFault<'a>>
     requires { depth ≤ 64 }
     ensures { ReadsOn result (spelling.Key marks.For ∷ []) (ForTail ∷ []) rest.now depth (λ r. form_syms r.0) (λ r. r.1.now) }
 {
-    match past(rest, Mark::Local) {
+    match past(rest, TokenMark::Local) {
         Some(after) => for_rest(alloc, true, after, depth),
         None => for_rest(alloc, false, rest, depth),
     }
@@ -217,12 +237,12 @@ fn for_rest<'a>(
     local: bool,
     rest: &'a [Token],
     depth: u8,
-) -> Result<(Form, &'a [Token]), Fault<'a>>
+) -> Result<(Form, &'a [Token]), ReadingFault<'a>>
     requires { depth ≤ 64 }
     ensures { ReadsOn result (spelling.Key marks.For ∷ local_syms local) (OneWord ∷ Key marks.In ∷ Args ∷ OneBlock ∷ []) rest.now depth (λ r. form_syms r.0) (λ r. r.1.now) }
 {
     let (name, after) = word_here(rest, depth)?;
-    let after = key_here(after, Mark::In, depth)?;
+    let after = key_here(after, TokenMark::In, depth)?;
     let (items, after) = args(alloc, after, depth)?;
     let (block, after) = block(alloc, after, depth)?;
     Ok((
@@ -242,7 +262,7 @@ fn while_form<'a>(
     alloc: Global,
     rest: &'a [Token],
     depth: u8,
-) -> Result<(Form, &'a [Token]), Fault<'a>>
+) -> Result<(Form, &'a [Token]), ReadingFault<'a>>
     requires { depth ≤ 64 }
     ensures { ReadsOn result (spelling.Key marks.While ∷ []) (OneExpr ∷ OneBlock ∷ []) rest.now depth (λ r. form_syms r.0) (λ r. r.1.now) }
 {
@@ -262,7 +282,7 @@ fn module_form<'a>(
     alloc: Global,
     rest: &'a [Token],
     depth: u8,
-) -> Result<(Form, &'a [Token]), Fault<'a>>
+) -> Result<(Form, &'a [Token]), ReadingFault<'a>>
     requires { depth ≤ 64 }
     ensures { ReadsOn result (spelling.Key marks.Module ∷ []) (Args ∷ OneBlock ∷ []) rest.now depth (λ r. form_syms r.0) (λ r. r.1.now) }
 {
@@ -277,7 +297,7 @@ fn switch_form<'a>(
     alloc: Global,
     rest: &'a [Token],
     depth: u8,
-) -> Result<(Form, &'a [Token]), Fault<'a>>
+) -> Result<(Form, &'a [Token]), ReadingFault<'a>>
     requires { depth ≤ 64 }
     ensures { ReadsOn result (spelling.Key marks.Switch ∷ []) (Args ∷ CaseBlock ∷ []) rest.now depth (λ r. form_syms r.0) (λ r. r.1.now) }
 {
@@ -292,17 +312,17 @@ fn case_block<'a>(
     alloc: Global,
     rest: &'a [Token],
     depth: u8,
-) -> Result<(Vec<Case>, &'a [Token]), Fault<'a>>
+) -> Result<(Vec<Case>, &'a [Token]), ReadingFault<'a>>
     requires { depth ≤ 64 }
     ensures { MatchResult result (λ r. IsRead (CaseBlock ∷ []) rest.now depth (braced (cases_syms r.0.items)) r.1.now) (λ e. EndsBy (CaseBlock ∷ []) rest.now depth e) }
 {
-    match past(rest, Mark::BraceOpen) {
+    match past(rest, TokenMark::BraceOpen) {
         Some(after) if depth < MAX_OPEN => {
             let (found, after) = cases(alloc, after, depth + 1)?;
-            let after = key_here(after, Mark::BraceClose, depth)?;
+            let after = key_here(after, TokenMark::BraceClose, depth)?;
             Ok((found, after))
         }
-        _ => Err(Fault::At(rest)),
+        _ => Err(ReadingFault::At(rest)),
     }
 }
 
@@ -312,13 +332,13 @@ fn cases<'a>(
     alloc: Global,
     rest: &'a [Token],
     depth: u8,
-) -> Result<(Vec<Case>, &'a [Token]), Fault<'a>>
+) -> Result<(Vec<Case>, &'a [Token]), ReadingFault<'a>>
     requires { depth ≤ 64 }
     ensures { MatchResult result (λ r. IsRead (Cases ∷ []) rest.now depth (cases_syms r.0.items) r.1.now) (λ e. EndsBy (Cases ∷ []) rest.now depth e) }
 {
     let mut found = Vec::new(alloc);
     let mut left = rest;
-    'each: while let Some(after) = past(left, Mark::Case) {
+    'each: while let Some(after) = past(left, TokenMark::Case) {
         let (one, after) = one_case(alloc, after, depth)?;
         found.push(one)?;
         left = after;
@@ -332,12 +352,12 @@ fn one_case<'a>(
     alloc: Global,
     rest: &'a [Token],
     depth: u8,
-) -> Result<(Case, &'a [Token]), Fault<'a>>
+) -> Result<(Case, &'a [Token]), ReadingFault<'a>>
     requires { depth ≤ 64 }
     ensures { ReadsOn result (spelling.Key marks.Case ∷ []) (OneWord ∷ Key marks.Colon ∷ Stmts ∷ []) rest.now depth (λ r. case_syms r.0) (λ r. r.1.now) }
 {
     let (pattern, after) = word_here(rest, depth)?;
-    let after = key_here(after, Mark::Colon, depth)?;
+    let after = key_here(after, TokenMark::Colon, depth)?;
     let (stmts, after) = stmts(alloc, after, depth)?;
     Ok((
         Case {
@@ -354,7 +374,7 @@ fn rule_form<'a>(
     alloc: Global,
     rest: &'a [Token],
     depth: u8,
-) -> Result<(Form, &'a [Token]), Fault<'a>>
+) -> Result<(Form, &'a [Token]), ReadingFault<'a>>
     requires { depth < 64 }
     ensures { ReadsOn result (spelling.Key marks.Rule ∷ []) (OneWord ∷ RuleTail ∷ []) rest.now depth (λ r. form_syms r.0) (λ r. r.1.now) }
 {
@@ -370,11 +390,11 @@ fn rule_tail<'a>(
     name: Text,
     rest: &'a [Token],
     depth: u8,
-) -> Result<(Form, &'a [Token]), Fault<'a>>
+) -> Result<(Form, &'a [Token]), ReadingFault<'a>>
     requires { depth < 64 }
     ensures { ReadsOn result (spelling.Key marks.Rule ∷ spelling.Says name ∷ []) (RuleTail ∷ []) rest.now depth (λ r. form_syms r.0) (λ r. r.1.now) }
 {
-    match past(rest, Mark::ParenOpen) {
+    match past(rest, TokenMark::ParenOpen) {
         Some(after) => with_params(alloc, name, after, depth),
         None => {
             let (block, after) = block(alloc, rest, depth)?;
@@ -399,12 +419,12 @@ fn with_params<'a>(
     name: Text,
     rest: &'a [Token],
     depth: u8,
-) -> Result<(Form, &'a [Token]), Fault<'a>>
+) -> Result<(Form, &'a [Token]), ReadingFault<'a>>
     requires { depth < 64 }
     ensures { ReadsOn result (spelling.Key marks.Rule ∷ spelling.Says name ∷ spelling.Key marks.ParenOpen ∷ []) after_params rest.now depth (λ r. form_syms r.0) (λ r. r.1.now) }
 {
     let (params, after) = params(alloc, rest, depth + 1)?;
-    let after = key_here(after, Mark::ParenClose, depth)?;
+    let after = key_here(after, TokenMark::ParenClose, depth)?;
     let (block, after) = block(alloc, after, depth)?;
     let block = Rc::new(alloc, block)?;
     Ok((
@@ -423,7 +443,7 @@ fn on_form<'a>(
     alloc: Global,
     rest: &'a [Token],
     depth: u8,
-) -> Result<(Form, &'a [Token]), Fault<'a>>
+) -> Result<(Form, &'a [Token]), ReadingFault<'a>>
     requires { depth ≤ 64 }
     ensures { ReadsOn result (spelling.Key marks.On ∷ []) (OneArg ∷ OneStmt ∷ []) rest.now depth (λ r. form_syms r.0) (λ r. r.1.now) }
 {

@@ -3,15 +3,15 @@ use Rattle.std.specs.List.{list_any, before_first, after_first}
 use Rattle.std.specs.Borrow.{Bor}
 use Rattle.std.specs.Str.{chars, IsUtf8}
 use Rattle.jam_path.specs.Patterns.{is_taken, Match}
-use Rattle.jam_path.specs.declared.walk.Walk.{Walk}
-use Rattle.jam_path.specs.declared.walk.Walk.TheVariants.{Fits, Fails, Star}
+use Rattle.jam_path.specs.declared.walk.WalkEnd.{WalkEnd}
+use Rattle.jam_path.specs.declared.walk.WalkEnd.TheVariants.{Fits, Fails, Star}
 
 -- none of the last so many bytes is a `]`
 abbrev pub IsUnclosed : ℕ → List ℕ → Type 0
 IsUnclosed count pattern = (place : ℕ) → length pattern ≤ place + count → place < length pattern → slice_index pattern place ≢ 93
 
 -- what a walk to a `*` leaves: an end of the pattern, shorter than before, and no more text
-abbrev pub IsLeft : List ℕ → List ℕ → Walk → Type 0
+abbrev pub IsLeft : List ℕ → List ℕ → WalkEnd → Type 0
 IsLeft pattern text Fits = ⊤
 IsLeft pattern text Fails = ⊤
 IsLeft pattern text (Star rest left) =
@@ -61,7 +61,7 @@ abbrev pub IsStarless : List ℕ → Type 0
 IsStarless pattern = (rest : List ℕ) → pattern ≢ 42 ∷ rest
 
 -- how far a walk over the pieces before the next `*` came
-abbrev pub IsWalk : List ℕ → List ℕ → Walk → Type 0
+abbrev pub IsWalk : List ℕ → List ℕ → WalkEnd → Type 0
 IsWalk pattern text Fits = Match pattern text
 IsWalk pattern text Fails = ¬ Match pattern text
 IsWalk pattern text (Star rest left) =

@@ -5,7 +5,7 @@ ghost use Rattle.jam_path.specs.Patterns.{Match};
 ghost use Rattle.jam_path.specs.Steps.{IsUnclosed};
 
 use crate::piece::first_char;
-use crate::walk::{Walk, walk_pieces};
+use crate::walk::{WalkEnd, walk_pieces};
 
 /// How many bytes at the end of the pattern hold no `]`.
 fn unclosed_len(pattern: &str) -> usize
@@ -27,12 +27,12 @@ fn matches_end(pattern: &str, text: &str, unclosed: usize) -> bool
     let mut left = text;
     'places: loop {
         match walk_pieces(rest, left, unclosed) {
-            Walk::Fits => return true,
-            Walk::Star { pattern, text } => {
+            WalkEnd::Fits => return true,
+            WalkEnd::Star { pattern, text } => {
                 rest = pattern;
                 left = text;
             }
-            Walk::Fails => {
+            WalkEnd::Fails => {
                 let Some((_, after)) = first_char(left) else {
                     return false;
                 };
@@ -53,8 +53,8 @@ pub fn glob_match(pattern: &str, text: &str) -> bool
 {
     let unclosed = unclosed_len(pattern);
     match walk_pieces(pattern, text, unclosed) {
-        Walk::Fits => true,
-        Walk::Fails => false,
-        Walk::Star { pattern, text } => matches_end(pattern, text, unclosed),
+        WalkEnd::Fits => true,
+        WalkEnd::Fails => false,
+        WalkEnd::Star { pattern, text } => matches_end(pattern, text, unclosed),
     }
 }

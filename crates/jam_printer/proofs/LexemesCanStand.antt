@@ -7,8 +7,8 @@ use Rattle.std.proofs.lemmas.Slice.Eq.{bytes_eq-Decides}
 use Rattle.std.proofs.lemmas.List.Elements.{All-head, All-tail}
 use Rattle.b2_base.specs.declared.token.TokenKind.TheVariants as kinds
 use Rattle.jam_lexer.specs.Word.{is_key_text}
-use Rattle.jam_grammar.specs.declared.mark.Mark.{Mark}
-use Rattle.jam_grammar.specs.declared.mark.Mark.TheVariants as m
+use Rattle.jam_grammar.specs.declared.mark.TokenMark.{TokenMark}
+use Rattle.jam_grammar.specs.declared.mark.TokenMark.TheVariants as m
 use Rattle.jam_grammar.specs.declared.tree.Sign.{Sign}
 use Rattle.jam_grammar.specs.declared.tree.Sign.TheVariants as signs
 use Rattle.jam_grammar.specs.declared.tree.Param.{Param}
@@ -16,11 +16,11 @@ use Rattle.jam_grammar.specs.Trees.{ArgTree, Word, Bracket, InnerTree, CallOf, O
 use Rattle.jam_grammar.specs.Spelling.{Sym, Key, Heads, Says, Named, Raw, From, Never, Level, Anywhere, WithinOr, WithinAnd, at_or, at_and, spell_arg, spell_inner, spell_args, spell_lists, spell_further, spell_expr, spell_pair, spell_second, spell_joined, mark_syms, param_syms, takes_all, plist_syms, further_params, params_syms, sign_mark, set_syms, value_syms, local_syms, braced, only, is_if, spell_form, spell_other, spell_stmts, spell_cases}
 use Rattle.jam_grammar.specs.Alike.{mark_said, body_said, heads_said}
 use Rattle.jam_spelling.specs.declared.lexeme.Lexeme.{Lexeme}
-use Rattle.jam_spelling.specs.Standing.{word, key, IsRaw, CanStand, nothing, a_word, a_key, an_action}
+use Rattle.jam_spelling.specs.LexemeLists.{word, key, IsRaw, CanStand, nothing, a_word, a_key, an_action}
 use Rattle.jam_printer.specs.Lexemes.{lexeme_saying, written_as}
 
 -- marks whose lexeme stands by itself: each has a text of its own, and opens no body
-abbrev pub by_itself : Mark → Bool
+abbrev pub by_itself : TokenMark → Bool
 by_itself m.Plain = false
 by_itself m.Body = false
 by_itself m.Actions = false
@@ -30,7 +30,7 @@ by_itself _ = true
 -- symbols that stand by themselves, and whole actions
 pub data Orderly : List Sym → Type 0 where
   none : Orderly []
-  by_key : (mark : Mark) (more : List Sym) → by_itself mark ≡ true → Orderly more → Orderly (Key mark ∷ more)
+  by_key : (mark : TokenMark) (more : List Sym) → by_itself mark ≡ true → Orderly more → Orderly (Key mark ∷ more)
   by_word : (text : List ℕ) (more : List Sym) → Orderly more → Orderly (Says text ∷ more)
   by_name : (text : List ℕ) (more : List Sym) → Orderly more → Orderly (Named text ∷ more)
   by_line : (line : ℕ) (more : List Sym) → Orderly more → Orderly (From line ∷ more)
@@ -46,7 +46,7 @@ HasRaw lexeme = lexeme.kind ≡ kinds.Body → IsRaw lexeme.text
 a_sign : (text : List ℕ) (more : List Lexeme) → is_key_text text ≡ true → bytes_eq text (codes "actions") ≡ false → CanStand more → CanStand (key text ∷ more)
 a_sign text more is other stand = a_key text more is (λ e. false≢true (sym other ∙ (bytes_eq-Decides text (codes "actions")).1 e)) stand
 
-sign_stands : (mark : Mark) (more : List Lexeme) → by_itself mark ≡ true → CanStand more → CanStand (lexeme_saying (mark_said mark) ∷ more)
+sign_stands : (mark : TokenMark) (more : List Lexeme) → by_itself mark ≡ true → CanStand more → CanStand (lexeme_saying (mark_said mark) ∷ more)
 sign_stands m.Plain more e stand = absurd (false≢true e)
 sign_stands m.Body more e stand = absurd (false≢true e)
 sign_stands m.Actions more e stand = absurd (false≢true e)
@@ -141,7 +141,7 @@ and_then _ b (by_action name body t e q more rest) k = by_action name body t e q
 never : Orderly (Never ∷ [])
 never = by_never [] none
 
-one : (mark : Mark) → by_itself mark ≡ true → Orderly (Key mark ∷ [])
+one : (mark : TokenMark) → by_itself mark ≡ true → Orderly (Key mark ∷ [])
 one mark is = by_key mark [] is none
 
 mutual
@@ -187,15 +187,15 @@ mutual
   of_expr level (Differ a b) = and_then (spell_arg a) _ (of_arg a) (by_key m.NotEquals _ refl (of_arg b))
   of_expr level (Within a list) = and_then (spell_arg a) _ (of_arg a) (by_key m.In _ refl (of_args list))
 
-  of_pair : (level : Level) (mark : Mark) → by_itself mark ≡ true → (xs : ExprTrees) → Orderly (spell_pair level mark xs)
+  of_pair : (level : Level) (mark : TokenMark) → by_itself mark ≡ true → (xs : ExprTrees) → Orderly (spell_pair level mark xs)
   of_pair level mark is NoExprs = never
   of_pair level mark is (ExprAnd first rest) = and_then (spell_expr level first) _ (of_expr level first) (of_second level mark is rest)
 
-  of_second : (level : Level) (mark : Mark) → by_itself mark ≡ true → (xs : ExprTrees) → Orderly (spell_second level mark xs)
+  of_second : (level : Level) (mark : TokenMark) → by_itself mark ≡ true → (xs : ExprTrees) → Orderly (spell_second level mark xs)
   of_second level mark is NoExprs = never
   of_second level mark is (ExprAnd first rest) = by_key mark _ is (and_then (spell_expr level first) _ (of_expr level first) (of_joined level mark is rest))
 
-  of_joined : (level : Level) (mark : Mark) → by_itself mark ≡ true → (xs : ExprTrees) → Orderly (spell_joined level mark xs)
+  of_joined : (level : Level) (mark : TokenMark) → by_itself mark ≡ true → (xs : ExprTrees) → Orderly (spell_joined level mark xs)
   of_joined level mark is NoExprs = none
   of_joined level mark is (ExprAnd first rest) = by_key mark _ is (and_then (spell_expr level first) _ (of_expr level first) (of_joined level mark is rest))
 
@@ -227,7 +227,7 @@ of_sign signs.Set = refl
 of_sign signs.Add = refl
 of_sign signs.Fill = refl
 
-of_set : (mark : Mark) (syms : List Sym) → by_itself mark ≡ true → Orderly syms → Orderly (set_syms mark syms)
+of_set : (mark : TokenMark) (syms : List Sym) → by_itself mark ≡ true → Orderly syms → Orderly (set_syms mark syms)
 of_set mark syms is h = by_key mark _ is (and_then syms _ h (one m.Semicolon refl))
 
 of_value : (value : Option ArgTrees) → Orderly (value_syms value)

@@ -8,8 +8,8 @@ use Rattle.std.proofs.lemmas.Bool.{false≢true, and_parts}
 use Rattle.std.proofs.lemmas.Slice.Eq.{bytes_eq-Decides}
 use Rattle.std.specs.declared.vec.Vec.{Vec}
 use Rattle.std.specs.declared.alloc.Global.{Global}
-use Rattle.jam_grammar.specs.declared.mark.Mark.{Mark}
-use Rattle.jam_grammar.specs.declared.mark.Mark.TheVariants as marks
+use Rattle.jam_grammar.specs.declared.mark.TokenMark.{TokenMark}
+use Rattle.jam_grammar.specs.declared.mark.TokenMark.TheVariants as marks
 use Rattle.jam_grammar.specs.declared.tree.Arg.{Arg}
 use Rattle.jam_grammar.specs.declared.tree.Expr.{Expr}
 use Rattle.jam_grammar.specs.declared.tree.Param.{Param}
@@ -54,7 +54,7 @@ two a b c d e f =
     let right : written_as (b ++ d) ≡ written_as b ++ written_as d = written_append b d in
     cc
 
-second_is : (level : Level) (mark : Mark) (es : ExprTrees) → written_as (spell_second level mark es) ≡ written_as (spell_joined level mark es)
+second_is : (level : Level) (mark : TokenMark) (es : ExprTrees) → written_as (spell_second level mark es) ≡ written_as (spell_joined level mark es)
 second_is level mark NoExprs = refl
 second_is level mark (ExprAnd e es) = refl
 

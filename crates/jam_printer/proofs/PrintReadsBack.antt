@@ -10,8 +10,8 @@ use Rattle.b2_base.specs.declared.token.Token.{Token}
 use Rattle.b2_base.specs.declared.token.TokenKind.{TokenKind}
 use Rattle.b2_base.specs.declared.token.TokenKind.TheVariants as kinds
 use Rattle.jam_lexer.specs.Tokens.{AreTokens}
-use Rattle.jam_grammar.specs.declared.mark.Mark.{Mark}
-use Rattle.jam_grammar.specs.declared.mark.Mark.TheVariants as m
+use Rattle.jam_grammar.specs.declared.mark.TokenMark.{TokenMark}
+use Rattle.jam_grammar.specs.declared.mark.TokenMark.TheVariants as m
 use Rattle.jam_grammar.specs.Marks.{mark_of_token}
 use Rattle.jam_grammar.specs.Trees.{StmtTrees}
 use Rattle.jam_grammar.specs.Spelling.{Sym, Key, Heads, Switches, none, together, existing, quietly, Says, Named, Raw, From, Never, Spells, spell_stmts}
@@ -23,7 +23,7 @@ use Rattle.jam_grammar.proofs.SameSayingReadsAlike.{asked_reads}
 use Rattle.jam_grammar.proofs.UpToLines.{one_up_to_lines}
 use Rattle.jam_spelling.specs.declared.lexeme.Lexeme.{Lexeme}
 use Rattle.jam_spelling.specs.Spelling.{bytes_of}
-use Rattle.jam_spelling.specs.Standing.{IsRaw, CanStand}
+use Rattle.jam_spelling.specs.LexemeLists.{IsRaw, CanStand}
 use Rattle.jam_spelling.specs.Readings.{lexeme_of, ReadsAs, AreTexts}
 use Rattle.jam_spelling.proofs.LexedTextsFitTheirKind.{SaysRight, lexed_right}
 use Rattle.jam_spelling.proofs.SpelledReadsBack.{all_said}
@@ -60,14 +60,14 @@ not_body kinds.Body = false
 not_body _ = true
 
 -- what marks say, and words, are no bodies
-mark_raw : (mark : Mark) → HasRaw (lexeme_saying (mark_said mark))
+mark_raw : (mark : TokenMark) → HasRaw (lexeme_saying (mark_said mark))
 unfolding not_body
 mark_raw mark = λ e. let bad : false ≡ true = sym (ap not_body e) ∙ at_each (λ x. not_body (mark_said x).kind) refl mark in cc
 
 word_raw : (text : List ℕ) → HasRaw (lexeme_saying (word_said text))
 word_raw text = λ e. cc
 
-newly_raw : (a t : Bool) (mark : Mark) (more : List Lexeme) → All HasRaw more → All HasRaw (map lexeme_saying (newly a t mark) ++ more)
+newly_raw : (a t : Bool) (mark : TokenMark) (more : List Lexeme) → All HasRaw more → All HasRaw (map lexeme_saying (newly a t mark) ++ more)
 newly_raw false true mark more all = All-cons HasRaw (lexeme_saying (mark_said mark)) more (mark_raw mark) all
 newly_raw true true mark more all = all
 newly_raw true false mark more all = all

@@ -2,8 +2,8 @@
 use Rattle.std.specs.Prelude.{ℕ, Bool, false, List, [], ◌∷◌, ◌++◌, Option, map, flat_map}
 use Rattle.std.specs.declared.vec.Vec.{Vec}
 use Rattle.std.specs.declared.alloc.Global.{Global}
-use Rattle.jam_grammar.specs.declared.mark.Mark.{Mark}
-use Rattle.jam_grammar.specs.declared.mark.Mark.TheVariants as marks
+use Rattle.jam_grammar.specs.declared.mark.TokenMark.{TokenMark}
+use Rattle.jam_grammar.specs.declared.mark.TokenMark.TheVariants as marks
 use Rattle.jam_grammar.specs.declared.tree.Arg.{Arg}
 use Rattle.jam_grammar.specs.declared.tree.Block.{Block}
 use Rattle.jam_grammar.specs.declared.tree.Expr.{Expr}
@@ -42,7 +42,7 @@ abbrev pub assign_on_syms : Arg → List Arg → Sign → List Arg → List Sym
 assign_on_syms target on sign value = arg_syms target ++ (Key marks.On ∷ (args_syms on ++ set_syms (sign_mark sign) (args_syms value)))
 
 -- a modifier, where it stands
-abbrev pub modifier_lexemes : Bool → Mark → List Lexeme
+abbrev pub modifier_lexemes : Bool → TokenMark → List Lexeme
 modifier_lexemes stands mark = map lexeme_saying (newly false stands mark)
 
 -- the symbols of an `actions`

@@ -5,7 +5,7 @@ ghost use Rattle.jam_printer.specs.Lexemes.{written_as};
 
 use crate::lexemes::{push_key, push_word};
 use b2_base::fault::OutOfMemory;
-use jam_grammar::mark::Mark;
+use jam_grammar::mark::TokenMark;
 use jam_grammar::tree::{Arg, Inner};
 use jam_spelling::lexeme::Lexeme;
 
@@ -17,9 +17,9 @@ pub fn push_arg(lexemes: &mut Vec<Lexeme>, arg: &Arg) -> Result<(), OutOfMemory>
     match arg {
         Arg::Word(word) => push_word(lexemes, word.text()),
         Arg::Bracket(inner) => {
-            push_key(lexemes, Mark::SquareOpen)?;
+            push_key(lexemes, TokenMark::SquareOpen)?;
             push_inner(lexemes, inner)?;
-            push_key(lexemes, Mark::SquareClose)
+            push_key(lexemes, TokenMark::SquareClose)
         }
     }
 }
@@ -35,14 +35,14 @@ fn push_inner(lexemes: &mut Vec<Lexeme>, inner: &Inner) -> Result<(), OutOfMemor
             push_lists(lexemes, lists)
         }
         Inner::On { target, inner } => {
-            push_key(lexemes, Mark::On)?;
+            push_key(lexemes, TokenMark::On)?;
             push_arg(lexemes, target)?;
             push_inner(lexemes, inner)
         }
         Inner::OnReturn { target, value } => {
-            push_key(lexemes, Mark::On)?;
+            push_key(lexemes, TokenMark::On)?;
             push_arg(lexemes, target)?;
-            push_key(lexemes, Mark::Return)?;
+            push_key(lexemes, TokenMark::Return)?;
             push_args(lexemes, value)
         }
     }
@@ -79,7 +79,7 @@ fn push_further(lexemes: &mut Vec<Lexeme>, lists: &[Vec<Arg>]) -> Result<(), Out
     ensures { IfOk result (λ _. lexemes.new.items ≡ lexemes.old.items ++ written_as (further_syms lists.now)) }
 {
     for list in lists {
-        push_key(lexemes, Mark::Colon)?;
+        push_key(lexemes, TokenMark::Colon)?;
         push_args(lexemes, list)?;
     }
     Ok(())

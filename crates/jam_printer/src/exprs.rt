@@ -1,14 +1,14 @@
 //! The lexemes of conditions.
 ghost use Rattle.std.specs.Prelude.{◌≡◌, ◌++◌, ◌∷◌, [], IfOk};
 ghost use Rattle.jam_grammar.specs.Spelling.{Key, Anywhere, arg_syms, args_syms, expr_syms, pair_syms, joined_syms};
-ghost use Rattle.jam_grammar.specs.declared.mark.Mark.TheVariants as marks;
+ghost use Rattle.jam_grammar.specs.declared.mark.TokenMark.TheVariants as marks;
 ghost use Rattle.jam_printer.specs.Lexemes.{written_as};
 ghost use Rattle.jam_printer.specs.Joints.{joint_level, joint_mark};
 
 use crate::args::{push_arg, push_args};
 use crate::lexemes::push_key;
 use b2_base::fault::OutOfMemory;
-use jam_grammar::mark::Mark;
+use jam_grammar::mark::TokenMark;
 use jam_grammar::tree::{Arg, Expr};
 use jam_spelling::lexeme::Lexeme;
 
@@ -16,7 +16,7 @@ use jam_spelling::lexeme::Lexeme;
 fn push_pair(
     lexemes: &mut Vec<Lexeme>,
     left: &Arg,
-    sign: Mark,
+    sign: TokenMark,
     right: &Arg,
 ) -> Result<(), OutOfMemory>
     ensures { IfOk result (λ _. lexemes.new.items ≡ lexemes.old.items ++ written_as (arg_syms left.now ++ Key sign ∷ arg_syms right.now)) }
@@ -31,7 +31,7 @@ fn push_within(lexemes: &mut Vec<Lexeme>, item: &Arg, list: &[Arg]) -> Result<()
     ensures { IfOk result (λ _. lexemes.new.items ≡ lexemes.old.items ++ written_as (arg_syms item.now ++ Key marks.In ∷ args_syms list.now)) }
 {
     push_arg(lexemes, item)?;
-    push_key(lexemes, Mark::In)?;
+    push_key(lexemes, TokenMark::In)?;
     push_args(lexemes, list)
 }
 
@@ -45,12 +45,12 @@ enum Joint {
 }
 
 /// The mark of what stands between members.
-fn joint_mark(joint: Joint) -> Mark
+fn joint_mark(joint: Joint) -> TokenMark
     ensures { result ≡ joint_mark joint }
 {
     match joint {
-        Joint::Or => Mark::Or,
-        Joint::And => Mark::And,
+        Joint::Or => TokenMark::Or,
+        Joint::And => TokenMark::And,
     }
 }
 
@@ -63,17 +63,17 @@ pub fn push_expr(lexemes: &mut Vec<Lexeme>, expr: &Expr) -> Result<(), OutOfMemo
         Expr::Or(members) => push_members(lexemes, members, Joint::Or),
         Expr::And(members) => push_members(lexemes, members, Joint::And),
         Expr::Not(inner) => {
-            push_key(lexemes, Mark::Not)?;
+            push_key(lexemes, TokenMark::Not)?;
             push_member(lexemes, inner, Joint::And)
         }
         Expr::Group(inner) => {
-            push_key(lexemes, Mark::ParenOpen)?;
+            push_key(lexemes, TokenMark::ParenOpen)?;
             push_expr(lexemes, inner)?;
-            push_key(lexemes, Mark::ParenClose)
+            push_key(lexemes, TokenMark::ParenClose)
         }
         Expr::Bare(arg) => push_arg(lexemes, arg),
-        Expr::Equal(left, right) => push_pair(lexemes, left, Mark::Equals, right),
-        Expr::Differ(left, right) => push_pair(lexemes, left, Mark::NotEquals, right),
+        Expr::Equal(left, right) => push_pair(lexemes, left, TokenMark::Equals, right),
+        Expr::Differ(left, right) => push_pair(lexemes, left, TokenMark::NotEquals, right),
         Expr::Within(item, list) => push_within(lexemes, item, list),
     }
 }

@@ -8,67 +8,71 @@ ghost use Rattle.jam_printer.specs.Lexemes.{written_as};
 use b2_base::fault::OutOfMemory;
 use b2_base::text::Text;
 use b2_base::token::TokenKind;
-use jam_grammar::mark::Mark;
+use jam_grammar::mark::TokenMark;
 use jam_spelling::lexeme::Lexeme;
 
 /// Empty for marks that are no keys.
-fn key_text(mark: Mark) -> &'static str
+fn key_text(mark: TokenMark) -> &'static str
     ensures text { result.now ≡ (mark_said mark).text }
     ensures no_zero { HasNoZero result.now }
 {
     match mark {
-        Mark::Plain | Mark::Body | Mark::Unknown => "",
-        Mark::Query => "?",
-        Mark::Star => "*",
-        Mark::Plus => "+",
-        Mark::Together => "together",
-        Mark::Existing => "existing",
-        Mark::Quietly => "quietly",
-        Mark::Semicolon => ";",
-        Mark::Colon => ":",
-        Mark::BraceOpen => "{",
-        Mark::BraceClose => "}",
-        Mark::SquareOpen => "[",
-        Mark::SquareClose => "]",
-        Mark::ParenOpen => "(",
-        Mark::ParenClose => ")",
-        Mark::Equals => "=",
-        Mark::PlusEquals => "+=",
-        Mark::QueryEquals => "?=",
-        Mark::NotEquals => "!=",
-        Mark::Not => "!",
-        Mark::And => "&&",
-        Mark::Or => "||",
-        Mark::Actions => "actions",
-        Mark::Case => "case",
-        Mark::Else => "else",
-        Mark::For => "for",
-        Mark::If => "if",
-        Mark::In => "in",
-        Mark::Include => "include",
-        Mark::Local => "local",
-        Mark::Module => "module",
-        Mark::On => "on",
-        Mark::Return => "return",
-        Mark::Rule => "rule",
-        Mark::Switch => "switch",
-        Mark::While => "while",
+        TokenMark::Plain | TokenMark::Body | TokenMark::Unknown => "",
+        TokenMark::Query => "?",
+        TokenMark::Star => "*",
+        TokenMark::Plus => "+",
+        TokenMark::Together => "together",
+        TokenMark::Existing => "existing",
+        TokenMark::Quietly => "quietly",
+        TokenMark::Semicolon => ";",
+        TokenMark::Colon => ":",
+        TokenMark::BraceOpen => "{",
+        TokenMark::BraceClose => "}",
+        TokenMark::SquareOpen => "[",
+        TokenMark::SquareClose => "]",
+        TokenMark::ParenOpen => "(",
+        TokenMark::ParenClose => ")",
+        TokenMark::Equals => "=",
+        TokenMark::PlusEquals => "+=",
+        TokenMark::QueryEquals => "?=",
+        TokenMark::NotEquals => "!=",
+        TokenMark::Not => "!",
+        TokenMark::And => "&&",
+        TokenMark::Or => "||",
+        TokenMark::Actions => "actions",
+        TokenMark::Case => "case",
+        TokenMark::Else => "else",
+        TokenMark::For => "for",
+        TokenMark::If => "if",
+        TokenMark::In => "in",
+        TokenMark::Include => "include",
+        TokenMark::Local => "local",
+        TokenMark::Module => "module",
+        TokenMark::On => "on",
+        TokenMark::Return => "return",
+        TokenMark::Rule => "rule",
+        TokenMark::Switch => "switch",
+        TokenMark::While => "while",
     }
 }
 
 /// The kind of what a mark stands for.
-fn key_kind(mark: Mark) -> TokenKind
+fn key_kind(mark: TokenMark) -> TokenKind
     ensures { result ≡ (mark_said mark).kind }
 {
     match mark {
-        Mark::Query | Mark::Star | Mark::Plus | Mark::Together | Mark::Existing | Mark::Quietly =>
-            TokenKind::Word,
+        TokenMark::Query
+        | TokenMark::Star
+        | TokenMark::Plus
+        | TokenMark::Together
+        | TokenMark::Existing
+        | TokenMark::Quietly => TokenKind::Word,
         _ => TokenKind::Key,
     }
 }
 
 /// Appends what a mark stands for.
-pub fn push_key(lexemes: &mut Vec<Lexeme>, mark: Mark) -> Result<(), OutOfMemory>
+pub fn push_key(lexemes: &mut Vec<Lexeme>, mark: TokenMark) -> Result<(), OutOfMemory>
     ensures { IfOk result (λ _. lexemes.new.items ≡ lexemes.old.items ++ written_as (Key mark ∷ [])) }
 {
     let text = Text::new(*lexemes.allocator(), key_text(mark))?;

@@ -5,7 +5,7 @@ ghost use Rattle.jam_printer.specs.Lexemes.{written_as};
 
 use crate::lexemes::{push_key, push_word};
 use b2_base::fault::OutOfMemory;
-use jam_grammar::mark::Mark;
+use jam_grammar::mark::TokenMark;
 use jam_grammar::tree::Param;
 use jam_spelling::lexeme::Lexeme;
 
@@ -14,9 +14,9 @@ fn push_mark(lexemes: &mut Vec<Lexeme>, mark: Option<char>) -> Result<(), OutOfM
     ensures { IfOk result (λ _. lexemes.new.items ≡ lexemes.old.items ++ written_as (mark_syms mark)) }
 {
     match mark {
-        Some('?') => push_key(lexemes, Mark::Query),
-        Some('*') => push_key(lexemes, Mark::Star),
-        Some('+') => push_key(lexemes, Mark::Plus),
+        Some('?') => push_key(lexemes, TokenMark::Query),
+        Some('*') => push_key(lexemes, TokenMark::Star),
+        Some('+') => push_key(lexemes, TokenMark::Plus),
         _ => Ok(()),
     }
 }
@@ -37,7 +37,7 @@ fn push_further(lexemes: &mut Vec<Lexeme>, lists: &[Vec<Param>]) -> Result<(), O
     ensures { IfOk result (λ _. lexemes.new.items ≡ lexemes.old.items ++ written_as (further_params (map (λ list. list.items) lists.now))) }
 {
     for list in lists {
-        push_key(lexemes, Mark::Colon)?;
+        push_key(lexemes, TokenMark::Colon)?;
         push_list(lexemes, list)?;
     }
     Ok(())
@@ -51,10 +51,10 @@ fn push_parens(
 ) -> Result<(), OutOfMemory>
     ensures { IfOk result (λ _. lexemes.new.items ≡ lexemes.old.items ++ written_as (params_syms (first.now ∷ map (λ list. list.items) more.now))) }
 {
-    push_key(lexemes, Mark::ParenOpen)?;
+    push_key(lexemes, TokenMark::ParenOpen)?;
     push_list(lexemes, first)?;
     push_further(lexemes, more)?;
-    push_key(lexemes, Mark::ParenClose)
+    push_key(lexemes, TokenMark::ParenClose)
 }
 
 /// Appends the lists of parameters in parentheses, if there are any.

@@ -1,6 +1,6 @@
 //! The lexemes of statements that hold no others.
 ghost use Rattle.std.specs.Prelude.{◌≡◌, ◌++◌, ◌∷◌, [], false, IfOk, option_copied};
-ghost use Rattle.jam_grammar.specs.declared.mark.Mark.TheVariants as marks;
+ghost use Rattle.jam_grammar.specs.declared.mark.TokenMark.TheVariants as marks;
 ghost use Rattle.jam_grammar.specs.Spelling.{Key, Heads, arg_syms, args_syms, lists_syms, set_syms, sign_mark};
 ghost use Rattle.jam_printer.specs.Lexemes.{written_as, modifier_lexemes, locals_syms, assign_on_syms, actions_syms};
 
@@ -8,28 +8,28 @@ use crate::args::{push_arg, push_args, push_lists};
 use crate::lexemes::{push_body, push_key, push_word};
 use b2_base::fault::OutOfMemory;
 use b2_base::text::Text;
-use jam_grammar::mark::Mark;
+use jam_grammar::mark::TokenMark;
 use jam_grammar::tree::{Arg, Sign};
 use jam_spelling::lexeme::Lexeme;
 
 /// What stands between a name and its new value.
-fn sign_mark(sign: Sign) -> Mark
+fn sign_mark(sign: Sign) -> TokenMark
     ensures { result ≡ sign_mark sign }
 {
     match sign {
-        Sign::Set => Mark::Equals,
-        Sign::Add => Mark::PlusEquals,
-        Sign::Fill => Mark::QueryEquals,
+        Sign::Set => TokenMark::Equals,
+        Sign::Add => TokenMark::PlusEquals,
+        Sign::Fill => TokenMark::QueryEquals,
     }
 }
 
 /// Appends a sign or a key, a list, and the end of the statement.
-pub fn push_set(lexemes: &mut Vec<Lexeme>, mark: Mark, list: &[Arg]) -> Result<(), OutOfMemory>
+pub fn push_set(lexemes: &mut Vec<Lexeme>, mark: TokenMark, list: &[Arg]) -> Result<(), OutOfMemory>
     ensures { IfOk result (λ _. lexemes.new.items ≡ lexemes.old.items ++ written_as (set_syms mark (args_syms list.now))) }
 {
     push_key(lexemes, mark)?;
     push_args(lexemes, list)?;
-    push_key(lexemes, Mark::Semicolon)
+    push_key(lexemes, TokenMark::Semicolon)
 }
 
 /// Appends a `local`.
@@ -40,11 +40,11 @@ pub fn push_local(
 ) -> Result<(), OutOfMemory>
     ensures { IfOk result (λ _. lexemes.new.items ≡ lexemes.old.items ++ written_as (locals_syms names.now (option_copied value.entry))) }
 {
-    push_key(lexemes, Mark::Local)?;
+    push_key(lexemes, TokenMark::Local)?;
     push_args(lexemes, names)?;
     match value {
-        None => push_key(lexemes, Mark::Semicolon),
-        Some(value) => push_set(lexemes, Mark::Equals, value),
+        None => push_key(lexemes, TokenMark::Semicolon),
+        Some(value) => push_set(lexemes, TokenMark::Equals, value),
     }
 }
 
@@ -72,13 +72,17 @@ pub fn push_assign_on(
     ensures { IfOk result (λ _. lexemes.new.items ≡ lexemes.old.items ++ written_as (assign_on_syms target.now on.now sign value.now)) }
 {
     push_arg(lexemes, target)?;
-    push_key(lexemes, Mark::On)?;
+    push_key(lexemes, TokenMark::On)?;
     push_args(lexemes, on)?;
     push_set(lexemes, sign_mark(sign), value)
 }
 
 /// Appends a modifier, if it stands.
-fn push_modifier(lexemes: &mut Vec<Lexeme>, stands: bool, mark: Mark) -> Result<(), OutOfMemory>
+fn push_modifier(
+    lexemes: &mut Vec<Lexeme>,
+    stands: bool,
+    mark: TokenMark,
+) -> Result<(), OutOfMemory>
     ensures { IfOk result (λ _. lexemes.new.items ≡ lexemes.old.items ++ modifier_lexemes stands mark) }
 {
     if stands {
@@ -97,9 +101,9 @@ fn push_modifiers(
 ) -> Result<(), OutOfMemory>
     ensures { IfOk result (λ _. lexemes.new.items ≡ lexemes.old.items ++ written_as (Heads false false false together existing quietly ∷ [])) }
 {
-    push_modifier(lexemes, together, Mark::Together)?;
-    push_modifier(lexemes, existing, Mark::Existing)?;
-    push_modifier(lexemes, quietly, Mark::Quietly)
+    push_modifier(lexemes, together, TokenMark::Together)?;
+    push_modifier(lexemes, existing, TokenMark::Existing)?;
+    push_modifier(lexemes, quietly, TokenMark::Quietly)
 }
 
 /// Appends an `actions`.
@@ -113,12 +117,12 @@ pub fn push_actions(
 ) -> Result<(), OutOfMemory>
     ensures { IfOk result (λ _. lexemes.new.items ≡ lexemes.old.items ++ written_as (actions_syms name.now together existing quietly body.now)) }
 {
-    push_key(lexemes, Mark::Actions)?;
+    push_key(lexemes, TokenMark::Actions)?;
     push_modifiers(lexemes, together, existing, quietly)?;
     push_word(lexemes, name)?;
-    push_key(lexemes, Mark::BraceOpen)?;
+    push_key(lexemes, TokenMark::BraceOpen)?;
     push_body(lexemes, body)?;
-    push_key(lexemes, Mark::BraceClose)
+    push_key(lexemes, TokenMark::BraceClose)
 }
 
 /// Appends a call.
@@ -131,5 +135,5 @@ pub fn push_call(
 {
     push_arg(lexemes, head)?;
     push_lists(lexemes, lists)?;
-    push_key(lexemes, Mark::Semicolon)
+    push_key(lexemes, TokenMark::Semicolon)
 }

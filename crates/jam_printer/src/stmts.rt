@@ -1,6 +1,6 @@
 //! The lexemes of statements.
 ghost use Rattle.std.specs.Prelude.{◌≡◌, ◌++◌, ◌∷◌, IfOk};
-ghost use Rattle.jam_grammar.specs.declared.mark.Mark.TheVariants as marks;
+ghost use Rattle.jam_grammar.specs.declared.mark.TokenMark.TheVariants as marks;
 ghost use Rattle.jam_grammar.specs.Spelling.{Key, arg_syms, args_syms, braced, block_syms, form_syms, other_syms, only, is_if, case_syms, cases_syms};
 ghost use Rattle.jam_grammar.specs.Trees.{form_tree};
 ghost use Rattle.jam_printer.specs.Lexemes.{written_as, if_syms, for_syms, while_syms, rule_syms};
@@ -12,7 +12,7 @@ use crate::params::push_params;
 use crate::simple::{push_actions, push_assign, push_assign_on, push_call, push_local, push_set};
 use b2_base::fault::OutOfMemory;
 use b2_base::text::Text;
-use jam_grammar::mark::Mark;
+use jam_grammar::mark::TokenMark;
 use jam_grammar::tree::{Arg, Block, Case, Expr, Form, Other, Param, Stmt};
 use jam_spelling::lexeme::Lexeme;
 
@@ -21,9 +21,9 @@ use jam_spelling::lexeme::Lexeme;
 fn push_block(lexemes: &mut Vec<Lexeme>, block: &Block) -> Result<(), OutOfMemory>
     ensures { IfOk result (λ _. lexemes.new.items ≡ lexemes.old.items ++ written_as (braced (block_syms block.now))) }
 {
-    push_key(lexemes, Mark::BraceOpen)?;
+    push_key(lexemes, TokenMark::BraceOpen)?;
     push_stmts(lexemes, block)?;
-    push_key(lexemes, Mark::BraceClose)
+    push_key(lexemes, TokenMark::BraceClose)
 }
 
 /// Appends the statements of a block.
@@ -56,8 +56,8 @@ fn push_stmt(lexemes: &mut Vec<Lexeme>, stmt: &Stmt) -> Result<(), OutOfMemory>
             sign,
             value,
         } => push_assign_on(lexemes, target, on, *sign, value),
-        Form::Include(names) => push_set(lexemes, Mark::Include, names),
-        Form::Return(value) => push_set(lexemes, Mark::Return, value),
+        Form::Include(names) => push_set(lexemes, TokenMark::Include, names),
+        Form::Return(value) => push_set(lexemes, TokenMark::Return, value),
         Form::If { test, then, other } => {
             push_if(lexemes, test, then)?;
             push_other(lexemes, other)
@@ -93,7 +93,7 @@ fn push_stmt(lexemes: &mut Vec<Lexeme>, stmt: &Stmt) -> Result<(), OutOfMemory>
 fn push_if(lexemes: &mut Vec<Lexeme>, test: &Expr, block: &Block) -> Result<(), OutOfMemory>
     ensures { IfOk result (λ _. lexemes.new.items ≡ lexemes.old.items ++ written_as (if_syms test.now block.now)) }
 {
-    push_key(lexemes, Mark::If)?;
+    push_key(lexemes, TokenMark::If)?;
     push_expr(lexemes, test)?;
     push_block(lexemes, block)
 }
@@ -106,11 +106,11 @@ fn push_other(lexemes: &mut Vec<Lexeme>, other: &Other) -> Result<(), OutOfMemor
     match other {
         Other::Nothing => Ok(()),
         Other::Braces(block) => {
-            push_key(lexemes, Mark::Else)?;
+            push_key(lexemes, TokenMark::Else)?;
             push_block(lexemes, block)
         }
         Other::If(stmt) => {
-            push_key(lexemes, Mark::Else)?;
+            push_key(lexemes, TokenMark::Else)?;
             push_else_if(lexemes, stmt)
         }
     }
@@ -137,12 +137,12 @@ fn push_for(
 ) -> Result<(), OutOfMemory>
     ensures { IfOk result (λ _. lexemes.new.items ≡ lexemes.old.items ++ written_as (for_syms local name.now items.now block.now)) }
 {
-    push_key(lexemes, Mark::For)?;
+    push_key(lexemes, TokenMark::For)?;
     if local {
-        push_key(lexemes, Mark::Local)?;
+        push_key(lexemes, TokenMark::Local)?;
     }
     push_word(lexemes, name)?;
-    push_key(lexemes, Mark::In)?;
+    push_key(lexemes, TokenMark::In)?;
     push_args(lexemes, items)?;
     push_block(lexemes, block)
 }
@@ -151,7 +151,7 @@ fn push_for(
 fn push_while(lexemes: &mut Vec<Lexeme>, test: &Expr, block: &Block) -> Result<(), OutOfMemory>
     ensures { IfOk result (λ _. lexemes.new.items ≡ lexemes.old.items ++ written_as (while_syms test.now block.now)) }
 {
-    push_key(lexemes, Mark::While)?;
+    push_key(lexemes, TokenMark::While)?;
     push_expr(lexemes, test)?;
     push_block(lexemes, block)
 }
@@ -160,11 +160,11 @@ fn push_while(lexemes: &mut Vec<Lexeme>, test: &Expr, block: &Block) -> Result<(
 fn push_switch(lexemes: &mut Vec<Lexeme>, value: &[Arg], cases: &[Case]) -> Result<(), OutOfMemory>
     ensures { IfOk result (λ _. lexemes.new.items ≡ lexemes.old.items ++ written_as (Key marks.Switch ∷ (args_syms value.now ++ braced (cases_syms cases.now)))) }
 {
-    push_key(lexemes, Mark::Switch)?;
+    push_key(lexemes, TokenMark::Switch)?;
     push_args(lexemes, value)?;
-    push_key(lexemes, Mark::BraceOpen)?;
+    push_key(lexemes, TokenMark::BraceOpen)?;
     push_cases(lexemes, cases)?;
-    push_key(lexemes, Mark::BraceClose)
+    push_key(lexemes, TokenMark::BraceClose)
 }
 
 /// Appends the cases of a `switch`.
@@ -183,9 +183,9 @@ fn push_cases(lexemes: &mut Vec<Lexeme>, cases: &[Case]) -> Result<(), OutOfMemo
 fn push_case(lexemes: &mut Vec<Lexeme>, case: &Case) -> Result<(), OutOfMemory>
     ensures { IfOk result (λ _. lexemes.new.items ≡ lexemes.old.items ++ written_as (case_syms case.now)) }
 {
-    push_key(lexemes, Mark::Case)?;
+    push_key(lexemes, TokenMark::Case)?;
     push_word(lexemes, &case.pattern)?;
-    push_key(lexemes, Mark::Colon)?;
+    push_key(lexemes, TokenMark::Colon)?;
     push_stmts(lexemes, &case.block)
 }
 
@@ -193,7 +193,7 @@ fn push_case(lexemes: &mut Vec<Lexeme>, case: &Case) -> Result<(), OutOfMemory>
 fn push_module(lexemes: &mut Vec<Lexeme>, name: &[Arg], block: &Block) -> Result<(), OutOfMemory>
     ensures { IfOk result (λ _. lexemes.new.items ≡ lexemes.old.items ++ written_as (Key marks.Module ∷ (args_syms name.now ++ braced (block_syms block.now)))) }
 {
-    push_key(lexemes, Mark::Module)?;
+    push_key(lexemes, TokenMark::Module)?;
     push_args(lexemes, name)?;
     push_block(lexemes, block)
 }
@@ -207,7 +207,7 @@ fn push_rule(
 ) -> Result<(), OutOfMemory>
     ensures { IfOk result (λ _. lexemes.new.items ≡ lexemes.old.items ++ written_as (rule_syms name.now params.now block.now)) }
 {
-    push_key(lexemes, Mark::Rule)?;
+    push_key(lexemes, TokenMark::Rule)?;
     push_word(lexemes, name)?;
     push_params(lexemes, params)?;
     push_block(lexemes, block)
@@ -218,7 +218,7 @@ fn push_rule(
 fn push_on(lexemes: &mut Vec<Lexeme>, target: &Arg, stmt: &Stmt) -> Result<(), OutOfMemory>
     ensures { IfOk result (λ _. lexemes.new.items ≡ lexemes.old.items ++ written_as (Key marks.On ∷ (arg_syms target.now ++ form_syms stmt.now.form))) }
 {
-    push_key(lexemes, Mark::On)?;
+    push_key(lexemes, TokenMark::On)?;
     push_arg(lexemes, target)?;
     push_stmt(lexemes, stmt)
 }

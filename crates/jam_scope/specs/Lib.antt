@@ -15,5 +15,5 @@ pub mod WorldCodes
 pub mod Changes
 pub mod Names
 pub mod Lines
-pub mod Parts
+pub mod WorldParts
 pub mod Heights

@@ -170,9 +170,9 @@ abbrev mutual
   exprs_g tree.NoExprs = gnil
   exprs_g (tree.ExprAnd first rest) = gcons (expr_g first) (exprs_g rest)
 
-abbrev two_args : (ArgTree → ArgTree → ExprTree) → Gv → ExprTree
-two_args make (gcons a b) = make (arg_of a) (arg_of b)
-two_args make g = tree.Or tree.NoExprs
+abbrev with_args : (ArgTree → ArgTree → ExprTree) → Gv → ExprTree
+with_args make (gcons a b) = make (arg_of a) (arg_of b)
+with_args make g = tree.Or tree.NoExprs
 
 abbrev within_of : Gv → ExprTree
 within_of (gcons a list) = tree.Within (arg_of a) (args_of list)
@@ -185,8 +185,8 @@ abbrev mutual
   expr_of (gcons (gnum (suc (suc zero))) e) = tree.Not (expr_of e)
   expr_of (gcons (gnum (suc (suc (suc zero)))) e) = tree.Group (expr_of e)
   expr_of (gcons (gnum (suc (suc (suc (suc zero))))) a) = tree.Bare (arg_of a)
-  expr_of (gcons (gnum (suc (suc (suc (suc (suc zero)))))) g) = two_args tree.Equal g
-  expr_of (gcons (gnum (suc (suc (suc (suc (suc (suc zero))))))) g) = two_args tree.Differ g
+  expr_of (gcons (gnum (suc (suc (suc (suc (suc zero)))))) g) = with_args tree.Equal g
+  expr_of (gcons (gnum (suc (suc (suc (suc (suc (suc zero))))))) g) = with_args tree.Differ g
   expr_of (gcons (gnum (suc (suc (suc (suc (suc (suc (suc n)))))))) g) = within_of g
   expr_of g = tree.Or tree.NoExprs
 

@@ -5,7 +5,7 @@ use Rattle.std.specs.FinMap as map
 use Rattle.jam_journal.specs.ScopeCodes.{text_code, value_code, key_code, scopes_code}
 use Rattle.jam_scope.specs.RuleCodes.{rule_code, actions_code, notes_code}
 use Rattle.jam_scope.specs.Worlds.{World, Worlds}
-use Rattle.jam_scope.specs.Parts.{Parts, world_of}
+use Rattle.jam_scope.specs.WorldParts.{Parts, world_of}
 
 abbrev pub parts_code : Coded Parts
 parts_code =

@@ -71,7 +71,7 @@ impl Model for World {
     ghost use Rattle.std.specs.Prelude.{◌≡◌, length};
     ghost use Rattle.jam_scope.specs.Worlds.{Worlds};
     ghost use Rattle.jam_scope.specs.WorldCodes.{worlds_code};
-    ghost use Rattle.jam_scope.specs.Parts.{together, worlds_of};
+    ghost use Rattle.jam_scope.specs.WorldParts.{together, worlds_of};
 
     ghost Value = { Worlds };
 

@@ -13,21 +13,21 @@ use Rattle.jam_journal.specs.Scopes.{Value, Binding, enter, enter_call, bind, bi
 use Rattle.jam_scope.specs.Rules.{Rule}
 use Rattle.jam_scope.specs.Changes.{freeze_roots}
 use Rattle.jam_scope.specs.Lines.{find_rule, actions_place}
-use Rattle.jam_eval.specs.declared.native_answer.NativeStep.{NativeStep}
-use Rattle.jam_eval.specs.declared.native_answer.NativeStep.TheVariants as steps
-use Rattle.jam_eval.specs.Faults.{Spot, include}
-use Rattle.jam_eval.specs.States.{State, with_world, with_scopes}
-use Rattle.jam_eval.specs.Settings as settings
-use Rattle.jam_eval.specs.Settings.{Setting, Told, Reading}
-use Rattle.jam_eval.specs.Outcomes.{Outcome, gives, faults, Flow, goes_on, returns, then_do, then_go, either, fault_at, by_turns, take_turn, expanded, joined, close_frame, in_module, in_frame, own_bindings, on_target}
-use Rattle.jam_eval.specs.Levels.{Levels}
-use Rattle.jam_eval.specs.Params.{call_binds}
-use Rattle.jam_eval.specs.Args.{arg, args_after, args, lists, call, call_with, call_head, call_of, inner}
-use Rattle.jam_eval.specs.Conds.{compared, expr, any_of, all_of}
-use Rattle.jam_eval.specs.Includes.{is_in_roots, file_ended, read_so, included}
-use Rattle.jam_eval.specs.Calls.{value_of, transformed, filtered, stepped, as_told, native_answer, acted_answer, told, recorded, native_call, acted_at, bound_call, called, applied}
-use Rattle.jam_eval.specs.Forms.{is_empty, own_value, for_all, set_name, set_own, while_rounds, for_rounds, for_loop, local_value, block, first_case, started, form, other, stmts}
-use Rattle.jam_eval.specs.Eval.{rule_body, one_level, levels, run, run_call, most_levels}
+use Rattle.jam_meaning.specs.declared.native_answer.NativeStep.{NativeStep}
+use Rattle.jam_meaning.specs.declared.native_answer.NativeStep.TheVariants as steps
+use Rattle.jam_meaning.specs.Faults.{Spot, include}
+use Rattle.jam_meaning.specs.States.{State, with_world, with_scopes}
+use Rattle.jam_meaning.specs.Settings as settings
+use Rattle.jam_meaning.specs.Settings.{Setting, Told, Reading}
+use Rattle.jam_meaning.specs.Outcomes.{Outcome, gives, faults, Flow, goes_on, returns, then_do, then_go, either, fault_at, by_turns, take_turn, expanded, joined, close_frame, in_module, in_frame, own_bindings, on_target}
+use Rattle.jam_meaning.specs.Levels.{Levels}
+use Rattle.jam_meaning.specs.Params.{call_binds}
+use Rattle.jam_meaning.specs.Args.{arg, args_after, args, lists, call, call_with, call_head, call_of, inner}
+use Rattle.jam_meaning.specs.Conds.{compared, expr, any_of, all_of}
+use Rattle.jam_meaning.specs.Includes.{is_in_roots, file_ended, read_so, included}
+use Rattle.jam_meaning.specs.RuleCalls.{value_of, transformed, filtered, stepped, as_told, native_answer, acted_answer, told, recorded, native_call, acted_at, bound_call, called, applied}
+use Rattle.jam_meaning.specs.Forms.{is_empty, own_value, for_all, set_name, set_own, while_rounds, for_rounds, for_loop, local_value, block, first_case, started, form, other, stmts}
+use Rattle.jam_meaning.specs.Eval.{rule_body, one_level, levels, run, run_call, most_levels}
 use Rattle.jam_source_laws.specs.Sources.{is_hidden, over, HasRoots, EndsIn, EndsInTold, Agree, ShowSame}
 
 module _ {R : Type 0} (roots : List Text) (setting : Setting R) (folder : Folder) (names : Text → List Text) (reading : Text → Reading)

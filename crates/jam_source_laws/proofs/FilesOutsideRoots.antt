@@ -5,7 +5,7 @@ use Rattle.b2_base.specs.Normal.{IsNormal}
 use Rattle.b2_host.specs.Disks.{File, Folder, bytes_at}
 use Rattle.b2_host.specs.Listings.{IsDirectlyIn, IsListed}
 use Rattle.jam_journal.specs.Tables.{Text}
-use Rattle.jam_eval.specs.Settings.{Reading, is_missing, is_too_big, has_no_tokens, has_no_tree, is_file, IsReading}
+use Rattle.jam_meaning.specs.Settings.{Reading, is_missing, is_too_big, has_no_tokens, has_no_tree, is_file, IsReading}
 use Rattle.jam_natives.specs.Globs.{is_output_dir}
 use Rattle.jam_natives.proofs.OutputDirsHideTheirFiles.{hides_outputs}
 use Rattle.jam_natives.proofs.DirectoriesHaveOneListing.{one_listing}

@@ -11,11 +11,11 @@ use Rattle.jam_journal.specs.Tables.{Text}
 use Rattle.jam_journal.specs.Scopes.{Value}
 use Rattle.jam_scope.specs.Worlds.{World, Worlds}
 use Rattle.jam_scope.specs.Changes.{changed, add_roots, freeze_roots}
-use Rattle.jam_eval.specs.declared.native_answer.NativeStep.{NativeStep}
-use Rattle.jam_eval.specs.declared.native_answer.NativeStep.TheVariants as steps
-use Rattle.jam_eval.specs.Refused.{refused_here}
-use Rattle.jam_eval.specs.Settings.{answers, refuses, of_arity, Sight, Reading, Setting, Meaning}
-use Rattle.jam_eval.specs.States.{State}
+use Rattle.jam_meaning.specs.declared.native_answer.NativeStep.{NativeStep}
+use Rattle.jam_meaning.specs.declared.native_answer.NativeStep.TheVariants as steps
+use Rattle.jam_meaning.specs.Refused.{refused_here}
+use Rattle.jam_meaning.specs.Settings.{answers, refuses, of_arity, Sight, Reading, Setting, Meaning}
+use Rattle.jam_meaning.specs.States.{State}
 use Rattle.jam_patterns.specs.declared.native_fault.NativeFault.{NativeFault}
 use Rattle.jam_natives.specs.declared.native.Native.{Native}
 use Rattle.jam_natives.specs.declared.native.Native.TheVariants as natives

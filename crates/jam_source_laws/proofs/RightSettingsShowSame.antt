@@ -5,7 +5,7 @@ use Rattle.b2_base.specs.Normal.{IsNormal}
 use Rattle.b2_base.proofs.NormalMakesNormalForms.{is_normal_normal}
 use Rattle.b2_host.specs.Disks.{Folder}
 use Rattle.jam_journal.specs.Tables.{Text}
-use Rattle.jam_eval.specs.Settings.{Reading, Setting, IsSetting}
+use Rattle.jam_meaning.specs.Settings.{Reading, Setting, IsSetting}
 use Rattle.jam_natives.specs.Keeping.{Kept}
 use Rattle.jam_natives.specs.Rows.{jam_meaning}
 use Rattle.jam_source_laws.specs.Sources.{over, ShowSame, BytesAgree}

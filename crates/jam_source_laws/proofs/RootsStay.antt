@@ -13,14 +13,14 @@ use Rattle.jam_journal.specs.Tables.{Text}
 use Rattle.jam_journal.specs.Scopes.{Value}
 use Rattle.jam_scope.specs.Worlds.{World, Worlds}
 use Rattle.jam_scope.specs.Changes.{add_roots}
-use Rattle.jam_eval.specs.declared.native_answer.NativeStep.{NativeStep}
-use Rattle.jam_eval.specs.declared.native_answer.NativeStep.TheVariants as steps
-use Rattle.jam_eval.specs.Refused.{refused_here}
-use Rattle.jam_eval.specs.Settings.{answers, refuses, of_arity, Sight, Setting}
-use Rattle.jam_eval.specs.States.{State}
-use Rattle.jam_eval.specs.Calls.{native_answer}
-use Rattle.jam_eval.specs.Kept.{EndsTold}
-use Rattle.jam_eval.proofs.IsKept.{IsKept}
+use Rattle.jam_meaning.specs.declared.native_answer.NativeStep.{NativeStep}
+use Rattle.jam_meaning.specs.declared.native_answer.NativeStep.TheVariants as steps
+use Rattle.jam_meaning.specs.Refused.{refused_here}
+use Rattle.jam_meaning.specs.Settings.{answers, refuses, of_arity, Sight, Setting}
+use Rattle.jam_meaning.specs.States.{State}
+use Rattle.jam_meaning.specs.RuleCalls.{native_answer}
+use Rattle.jam_meaning.specs.Kept.{EndsTold}
+use Rattle.jam_meaning.proofs.IsKept.{IsKept}
 use Rattle.jam_patterns.specs.declared.native_fault.NativeFault.{NativeFault}
 use Rattle.jam_natives.specs.declared.native.Native.{Native}
 use Rattle.jam_natives.specs.declared.native.Native.TheVariants as natives

@@ -5,11 +5,11 @@ use Rattle.b2_host.specs.Disks.{Folder}
 use Rattle.jam_grammar.specs.Trees.{StmtTrees}
 use Rattle.jam_journal.specs.Tables.{Text}
 use Rattle.jam_journal.specs.Scopes.{Value}
-use Rattle.jam_eval.specs.Faults.{Spot}
-use Rattle.jam_eval.specs.States.{State}
-use Rattle.jam_eval.specs.Settings.{Reading, Setting, IsSetting}
-use Rattle.jam_eval.specs.Eval.{run, run_call}
-use Rattle.jam_eval.specs.Kept.{Ends}
+use Rattle.jam_meaning.specs.Faults.{Spot}
+use Rattle.jam_meaning.specs.States.{State}
+use Rattle.jam_meaning.specs.Settings.{Reading, Setting, IsSetting}
+use Rattle.jam_meaning.specs.Eval.{run, run_call}
+use Rattle.jam_meaning.specs.Kept.{Ends}
 use Rattle.jam_natives.specs.Keeping.{Kept}
 use Rattle.jam_natives.specs.Rows.{jam_meaning}
 use Rattle.jam_source_laws.specs.Sources.{over, Agree, ShowSame, BytesAgree, RootsStay}

@@ -9,10 +9,10 @@ use Rattle.b2_host.specs.Disks.{Folder, bytes_at}
 use Rattle.jam_journal.specs.Tables.{Text}
 use Rattle.jam_journal.specs.Scopes.{Value}
 use Rattle.jam_scope.specs.Worlds.{World}
-use Rattle.jam_eval.specs.States.{State}
-use Rattle.jam_eval.specs.Settings.{Told, answers, refuses, Reading, Setting}
-use Rattle.jam_eval.specs.Outcomes.{Outcome, gives, faults}
-use Rattle.jam_eval.specs.Calls.{as_told, native_answer, acted_answer}
+use Rattle.jam_meaning.specs.States.{State}
+use Rattle.jam_meaning.specs.Settings.{Told, answers, refuses, Reading, Setting}
+use Rattle.jam_meaning.specs.Outcomes.{Outcome, gives, faults}
+use Rattle.jam_meaning.specs.RuleCalls.{as_told, native_answer, acted_answer}
 use Rattle.jam_natives.specs.Globs.{is_output_dir}
 
 -- a path lies below one of some roots

@@ -11,7 +11,7 @@ use Rattle.b2_base.specs.Bytes.{is_white}
 use Rattle.jam_lexer.specs.Word.{letters, is_lone, text_of, is_bare, is_key_text, kind_of}
 use Rattle.jam_lexer.specs.Body.{IsBody}
 use Rattle.jam_lexer.specs.Tokens.{Next, NextWord, NextBody, NextBrace, next_after, place_after, awaits_brace, is_the_key, is_key, is_body, IsNextToken, IsWordToken, IsBodyToken, IsBraceToken, Follows, Stand, IsEnd, AreTokens}
-use Rattle.jam_spelling.specs.Standing.{count, IsRaw}
+use Rattle.jam_spelling.specs.LexemeLists.{count, IsRaw}
 
 -- what a token of its kind may say
 abbrev pub SaysRight : Token → Type 0

@@ -8,7 +8,7 @@ use Rattle.b2_base.specs.declared.token.TokenKind.TheVariants as kinds
 use Rattle.jam_lexer.specs.Word.{Letter, Plain, Literal, Lone, letters, is_quote, is_space, is_lone, in_quotes, IsUnbroken, text_of, text_of_letter, is_key_text}
 use Rattle.jam_lexer.proofs.WordsGrowLetterByLetter.{letters_plain, letters_literal, letters_append, lone_append, in_quotes_push}
 use Rattle.jam_spelling.specs.Spelling.{is_escaped, is_special, needs_quotes, escaped, quoted, spelling}
-use Rattle.jam_spelling.specs.Standing.{word}
+use Rattle.jam_spelling.specs.LexemeLists.{word}
 use Rattle.jam_spelling.proofs.PlainTextsNeedNoQuotes.{IsWordOf, outside_without_quote, some_of, bare_word}
 
 -- ---- the letters within quotes

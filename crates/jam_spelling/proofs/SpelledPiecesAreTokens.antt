@@ -12,7 +12,7 @@ use Rattle.jam_lexer.specs.Gap.{IsGap, IsInComment}
 use Rattle.jam_lexer.specs.Word.{letters, is_lone, in_quotes, IsUnbroken, text_of, kind_of}
 use Rattle.jam_lexer.specs.Body.{count_of}
 use Rattle.jam_lexer.specs.Tokens.{IsWordToken, IsBodyToken}
-use Rattle.jam_spelling.specs.Standing.{count, IsRaw}
+use Rattle.jam_spelling.specs.LexemeLists.{count, IsRaw}
 use Rattle.jam_spelling.proofs.PlainTextsNeedNoQuotes.{IsWordOf}
 
 -- these bytes stand from the place on, up to the end

@@ -14,7 +14,7 @@ use Rattle.jam_lexer.specs.Word.{is_key_text}
 use Rattle.jam_lexer.specs.Tokens.{NextWord, NextBody, next_after, place_after, awaits_brace, is_body, IsNextToken, Follows, Stand, IsEnd}
 use Rattle.jam_spelling.specs.declared.lexeme.Lexeme.{Lexeme}
 use Rattle.jam_spelling.specs.Spelling.{spelling, ends_line, begins_body, separator, bytes_of}
-use Rattle.jam_spelling.specs.Standing.{word, key, body, IsRaw, CanStand, nothing, a_word, a_key, an_action}
+use Rattle.jam_spelling.specs.LexemeLists.{word, key, body, IsRaw, CanStand, nothing, a_word, a_key, an_action}
 use Rattle.jam_spelling.specs.Readings.{lexeme_of, ReadsAs, AreTexts}
 use Rattle.jam_spelling.proofs.PlainTextsNeedNoQuotes.{IsWordOf, key_word}
 use Rattle.jam_spelling.proofs.QuotedTextsAreWords.{spelled_word}

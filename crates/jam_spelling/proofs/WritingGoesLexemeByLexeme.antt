@@ -5,7 +5,7 @@ use Rattle.std.proofs.lemmas.List.Elements.{All-more}
 use Rattle.jam_lexer.specs.Tokens.{IsText}
 use Rattle.jam_spelling.specs.declared.lexeme.Lexeme.{Lexeme}
 use Rattle.jam_spelling.specs.Spelling.{spelling, separator, bytes_of}
-use Rattle.jam_spelling.specs.Standing.{CanStand}
+use Rattle.jam_spelling.specs.LexemeLists.{CanStand}
 use Rattle.jam_spelling.specs.Readings.{ReadsAs, AreTexts}
 use Rattle.jam_spelling.proofs.SpelledReadsBack.{all_said}
 

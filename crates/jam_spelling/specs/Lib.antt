@@ -4,5 +4,5 @@
 -- `Readings`: what the tokens of written bytes say
 
 pub mod Spelling
-pub mod Standing
+pub mod LexemeLists
 pub mod Readings

@@ -8,7 +8,7 @@ ghost use Rattle.jam_lexer.specs.Tokens.{AreTokens};
 ghost use Rattle.jam_lexer.specs.Answers.{IsAnswer};
 ghost use Rattle.jam_spelling.specs.declared.lexeme.Lexeme.{Lexeme};
 ghost use Rattle.jam_spelling.specs.Spelling.{bytes_of};
-ghost use Rattle.jam_spelling.specs.Standing.{IsRaw, CanStand};
+ghost use Rattle.jam_spelling.specs.LexemeLists.{IsRaw, CanStand};
 ghost use Rattle.jam_spelling.specs.Readings.{ReadsAs, AreTexts, Say};
 
 /// Lexemes that can stand in a text are what the tokens of their bytes say, and these bytes have no other answer.

@@ -7,7 +7,7 @@
 
 ghost use Rattle.std.specs.Prelude.{◌≡◌, IfOk};
 ghost use Rattle.jam_spelling.specs.Spelling.{bytes_of};
-ghost use Rattle.jam_spelling.specs.Standing.{CanStand};
+ghost use Rattle.jam_spelling.specs.LexemeLists.{CanStand};
 ghost use Rattle.jam_spelling.specs.Readings.{ReadsAs, AreTexts};
 
 pub mod laws;

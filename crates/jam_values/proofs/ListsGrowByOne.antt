@@ -10,8 +10,8 @@ use Rattle.jam_expand.specs.Limits.{within}
 use Rattle.jam_expand.proofs.ListsGrowTextByText.{fault_stays}
 use Rattle.jam_journal.specs.Tables.{Text}
 use Rattle.jam_journal.specs.Scopes.{Value}
-use Rattle.jam_eval.specs.Params.{numbered}
-use Rattle.jam_eval.specs.Conds.{is_same}
+use Rattle.jam_meaning.specs.Params.{numbered}
+use Rattle.jam_meaning.specs.Conds.{is_same}
 
 list_after : (n : ℕ) (lists : List Value) → list_at n (rest_of lists) ≡ list_at (suc n) lists
 list_after n [] = refl

@@ -5,7 +5,7 @@ use Rattle.std.specs.declared.vec.Vec.{Vec}
 use Rattle.std.specs.declared.alloc.Global.{Global}
 use Rattle.jam_grammar.specs.declared.tree.Param.{Param}
 use Rattle.jam_journal.specs.Scopes.{Value, Binding}
-use Rattle.jam_eval.specs.Params.{nothing_left, lists_taken}
+use Rattle.jam_meaning.specs.Params.{nothing_left, lists_taken}
 use Rattle.jam_grammar.specs.Trees.{lists_of}
 use Rattle.jam_values.specs.Taking.{IsTaken}
 

@@ -11,7 +11,7 @@ use Rattle.jam_grammar.specs.Readings.{ReadsTree, IsFirstFault, line_at, text_at
 use Rattle.jam_grammar.proofs.MachineStopsAtFirstFault.{never_both, one_fault}
 use Rattle.jam_grammar.proofs.UpToLines.{one_tree}
 use Rattle.jam_journal.specs.Tables.{Text}
-use Rattle.jam_eval.specs.Settings.{Reading, is_missing, is_too_big, has_no_tokens, has_no_tree, is_file, file_limit, IsReading}
+use Rattle.jam_meaning.specs.Settings.{Reading, is_missing, is_too_big, has_no_tokens, has_no_tree, is_file, file_limit, IsReading}
 use Rattle.jam_values.specs.FileReadings.{ReadsBytes, ReadsAny, OneReading}
 
 one_bytes : (folder : Folder) (path : Text) (bytes other : List ℕ) → bytes_at folder path ≡ Some bytes → bytes_at folder path ≡ Some other → bytes ≡ other

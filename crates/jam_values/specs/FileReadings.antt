@@ -11,7 +11,7 @@ use Rattle.jam_grammar.specs.Readings.{ReadsTree, IsFirstFault}
 use Rattle.jam_lexer.specs.Tokens.{AreTokens}
 use Rattle.jam_lexer.specs.Answers.{IsAnswer}
 use Rattle.jam_journal.specs.Tables.{Text}
-use Rattle.jam_eval.specs.Settings.{Reading, is_missing, is_too_big, has_no_tokens, has_no_tree, is_file, file_limit, IsReading}
+use Rattle.jam_meaning.specs.Settings.{Reading, is_missing, is_too_big, has_no_tokens, has_no_tree, is_file, file_limit, IsReading}
 use Rattle.jam_values.specs.declared.files.FileReading.{FileReading}
 use Rattle.jam_values.specs.declared.files.FileReading.TheVariants as files
 

@@ -1,7 +1,7 @@
 //! What a call binds in the frame of its rule.
 ghost use Rattle.std.specs.Prelude.{◌≡◌, ◌<◌, ◌+◌, [], ◌∷◌, ◌++◌, IfOk, OnOk, option_map};
 ghost use Rattle.b2_base.specs.Lists.{list_at};
-ghost use Rattle.jam_eval.specs.Params.{numbered, special, call_binds};
+ghost use Rattle.jam_meaning.specs.Params.{numbered, special, call_binds};
 ghost use Rattle.jam_values.specs.Bindings.{bindings_of};
 ghost use Rattle.jam_grammar.specs.Trees.{lists_of};
 

@@ -3,7 +3,7 @@ ghost use Rattle.std.specs.Prelude.{◌≡◌, Bool, option_map};
 ghost use Rattle.jam_grammar.specs.Trees.{block_tree, cases_tree};
 ghost use Rattle.jam_journal.specs.Tables.{Text as Bytes};
 ghost use Rattle.jam_values.specs.Choosing.{chosen};
-ghost use Rattle.jam_eval.specs.Settings.{IsMatching};
+ghost use Rattle.jam_meaning.specs.Settings.{IsMatching};
 
 use jam_grammar::tree::{Block, Case};
 use jam_path::glob::glob_match;

@@ -3,7 +3,7 @@ ghost use Rattle.std.specs.Prelude.{◌≡◌, ℕ, not, List, [], is_some, IfOk
 ghost use Rattle.std.specs.List.{list_all, list_any};
 ghost use Rattle.std.specs.FinMap as map;
 ghost use Rattle.std.specs.Str.{bytes_eq};
-ghost use Rattle.jam_eval.specs.Conds.{is_true, is_same, is_within};
+ghost use Rattle.jam_meaning.specs.Conds.{is_true, is_same, is_within};
 
 use b2_base::fault::OutOfMemory;
 use b2_base::text::Text;

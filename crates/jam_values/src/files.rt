@@ -1,7 +1,7 @@
 //! Reading files of statements.
 ghost use Rattle.std.specs.Prelude.{◌≤◌, length, IfOk};
 ghost use Rattle.std.specs.Option.{IfSome};
-ghost use Rattle.jam_eval.specs.Settings.{file_limit, IsReading};
+ghost use Rattle.jam_meaning.specs.Settings.{file_limit, IsReading};
 ghost use Rattle.jam_values.specs.FileReadings.{reading_of, ReadsAny, ReadsBytes, ReadsTokens, ReadsOnce};
 
 use b2_base::fault::OutOfMemory;

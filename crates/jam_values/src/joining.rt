@@ -4,11 +4,11 @@ ghost use Rattle.jam_expand.specs.Limits.{within, IsLeftBy};
 
 use b2_base::expand_fault::ExpandFault;
 use b2_base::text::Text;
-use jam_expand::limit::Gathered;
+use jam_expand::limit::LimitedList;
 
 /// Joins texts to a list that is not too large, unless it is too large with them. After an error the list may have some of
 /// them.
-pub fn join(gathered: &mut Gathered, texts: &[Text]) -> Result<(), ExpandFault>
+pub fn join(gathered: &mut LimitedList, texts: &[Text]) -> Result<(), ExpandFault>
     ensures given { IsLeftBy result gathered.new (within (gathered.old ++ texts.now)) }
     ensures ok { OnOk result (gathered.new ≡ gathered.old ++ texts.now) }
 {

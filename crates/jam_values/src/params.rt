@@ -1,7 +1,7 @@
 //! How parameters take arguments.
 ghost use Rattle.std.specs.Prelude.{◌≡◌, ◌==◌, IfOk, is_some};
 ghost use Rattle.jam_grammar.specs.Spelling.{takes_all};
-ghost use Rattle.jam_eval.specs.Params.{list_taken, lists_taken, nothing_left, params_bind};
+ghost use Rattle.jam_meaning.specs.Params.{list_taken, lists_taken, nothing_left, params_bind};
 ghost use Rattle.jam_values.specs.Bindings.{bindings_of};
 ghost use Rattle.jam_grammar.specs.Trees.{lists_of};
 ghost use Rattle.jam_values.specs.Taking.{count_taken, IsTaken};

@@ -10,9 +10,9 @@ use crate::memory::case_host::CaseHost;
 use b2_explain::cause::{Cause, Why};
 use b2_explain::check::check;
 use b2_explain::fault::ExplainFault;
-use b2_front::prepare::{Prepared, prepare};
-use b2_journal::reading::read;
+use b2_journal::log_reading::read;
 use b2_plan::plan::Plan;
+use b2_prepare::prepare::{Preparation, prepare};
 use std::alloc::Global;
 use std::mem::ManuallyDrop;
 use transcript::answer::Answer;
@@ -130,7 +130,7 @@ pub fn claim(
         step: number(step)?,
         cause: cause(alloc, name, words)?,
     });
-    let Prepared {
+    let Preparation {
         echoes: _echoes,
         result,
         tests: _tests,

@@ -4,8 +4,8 @@ use b2_endings::failed_lists::FailedLists;
 use b2_files::version::Version;
 use b2_host::children::ChildEvent;
 use b2_host::log_file::log_file;
-use b2_memory::job::Job;
 use b2_memory::memory::MemoryHost;
+use b2_memory::memory_job::MemoryJob;
 use b2_top::answer::Answer as Ended;
 use std::alloc::Global;
 use std::mem::ManuallyDrop;
@@ -70,7 +70,7 @@ pub fn events_shown(alloc: Global, events: &[ChildEvent]) -> Result<Answer, Case
 }
 
 /// The text of each child process, by the number of its step.
-pub fn starts_shown(alloc: Global, given: &[Rc<Job>]) -> Result<Answer, CaseFault> {
+pub fn starts_shown(alloc: Global, given: &[Rc<MemoryJob>]) -> Result<Answer, CaseFault> {
     let mut answer = Answer::new(alloc);
     for job in given {
         answer.put_number(u64::from(job.as_ref().step));

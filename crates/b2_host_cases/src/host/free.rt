@@ -8,7 +8,7 @@ ghost use Rattle.b2_memory.specs.Hosts.{running_children};
 ghost use Rattle.b2_host_cases.specs.Apart.{are_apart, is_beside};
 
 use b2_base::path::Path;
-use b2_memory::running::Running;
+use b2_memory::running_child::RunningChild;
 
 /// Whether no path of the one list is in the other.
 fn are_apart(some: &[Path], others: &[Path]) -> bool
@@ -18,7 +18,7 @@ fn are_apart(some: &[Path], others: &[Path]) -> bool
 }
 
 /// Whether a child is not in the way of one that runs, and that one not in its way.
-fn is_beside(child: &Running, ins: &[Path], outs: &[Path]) -> bool
+fn is_beside(child: &RunningChild, ins: &[Path], outs: &[Path]) -> bool
     ensures { result ≡ is_beside ins.now outs.now (child_with (given_of child.now.job.value)) }
 {
     let job = child.job.as_ref();
@@ -27,7 +27,7 @@ fn is_beside(child: &Running, ins: &[Path], outs: &[Path]) -> bool
 }
 
 /// The same of each child that runs.
-fn are_beside(running: &[Running], ins: &[Path], outs: &[Path]) -> bool
+fn are_beside(running: &[RunningChild], ins: &[Path], outs: &[Path]) -> bool
     ensures { result ≡ list_all (λ child. is_beside ins.now outs.now (child_with (given_of child.job.value))) running.now }
 {
     running.iter().all(|child| is_beside(child, ins, outs))
@@ -35,7 +35,7 @@ fn are_beside(running: &[Running], ins: &[Path], outs: &[Path]) -> bool
 
 /// Whether a child that reads `ins` and writes `outs` may start: it writes nothing that a running child reads or writes,
 /// and reads nothing that one writes.
-pub fn may_start(running: &[Running], ins: &[Path], outs: &[Path]) -> bool
+pub fn may_start(running: &[RunningChild], ins: &[Path], outs: &[Path]) -> bool
     ensures { IsTrue result → MayStart (running_children running.now) ins.now outs.now }
 {
     are_beside(running, ins, outs)

@@ -3,8 +3,8 @@ use crate::answers::push_ended;
 use crate::host_calls::file_command;
 use b2_base::path::Path;
 use b2_host::children::ChildEvent;
-use b2_memory::job::Job;
 use b2_memory::memory::MemoryHost;
+use b2_memory::memory_job::MemoryJob;
 use std::alloc::Global;
 use transcript::answer::Answer;
 use transcript::case_fault::CaseFault;
@@ -71,7 +71,7 @@ fn past(alloc: Global, host: &MemoryHost) -> Result<Answer, CaseFault> {
 }
 
 /// Adds what a start gave, as the words of a `start`.
-fn put_job(answer: &mut Answer, job: &Job) {
+fn put_job(answer: &mut Answer, job: &MemoryJob) {
     answer.put_number(job.step as u64);
     answer.put(" \"");
     answer.put(job.text.as_str());
@@ -92,7 +92,7 @@ fn running(alloc: Global, host: &MemoryHost) -> Result<Answer, CaseFault> {
 }
 
 /// Shows what a start gave, and below it the inputs that stood then, with their bytes.
-fn push_given(answer: &mut Answer, job: &Job) {
+fn push_given(answer: &mut Answer, job: &MemoryJob) {
     put_job(answer, job);
     answer.end_line();
     for entry in &job.held {

@@ -1,8 +1,8 @@
 //! The command on words.
 use crate::words::shown::words_shown;
 use b2_base::text::Text;
-use b2_words::fault::WordsFault;
-use b2_words::reader::read_words;
+use b2_command_line::fault::WordsFault;
+use b2_command_line::reader::read_words;
 use std::alloc::Global;
 use std::mem::ManuallyDrop;
 use transcript::answer::Answer;

@@ -1,5 +1,5 @@
 //! What the words of a command line ask for, as lines.
-use b2_words::words::{BuildOptions, Command as Asked, View, Words};
+use b2_command_line::words::{BuildOptions, Command as Asked, View, Words};
 use std::alloc::Global;
 use transcript::answer::Answer;
 use transcript::case_fault::CaseFault;

@@ -8,9 +8,9 @@ use b2_base::path::Path;
 use b2_base::text::Text;
 use b2_base::text_list::TextList;
 use b2_features::registry::Registry;
-use b2_texts::clashes::{has_two_values, unconditional_pairs};
-use b2_texts::lists::{read_properties, read_requirements, read_usages};
-use b2_texts::reading::{
+use b2_property_texts::clashes::{has_two_values, unconditional_pairs};
+use b2_property_texts::lists::{read_properties, read_requirements, read_usages};
+use b2_property_texts::reading::{
     Conditional, RequirementText, read_property, read_requirement, read_usage,
 };
 use std::alloc::Global;

@@ -8,7 +8,7 @@ ghost use Rattle.b2_sched.specs.Ends.{IsStepCycle};
 use super::Sched;
 use crate::cycles::cycle_of;
 use crate::numbers::{failed_of, numbers_of};
-use crate::skips::{Search, left_flags, stuck_flags};
+use crate::skips::{SkipSearch, left_flags, stuck_flags};
 use b2_base::fault::OutOfMemory;
 
 impl Sched {
@@ -35,14 +35,14 @@ impl Sched {
     }
 
     /// Which steps are left, and which of them are skipped where the update does not quit.
-    fn search(&self) -> Result<Search, OutOfMemory>
+    fn search(&self) -> Result<SkipSearch, OutOfMemory>
         ensures { IfOk result (λ search. IsSearch self.now search.left.items search.found.items []) }
     {
         let pending = failed_of(self.alloc, &self.states)?;
         let lacking = numbers_of(self.alloc, &self.lacking)?;
         let left = left_flags(self.alloc, &self.states, &self.dependents)?;
         let found = vec![in self.alloc; false; self.states.len()]?;
-        let mut search = Search {
+        let mut search = SkipSearch {
             left,
             found,
             pending,

@@ -13,21 +13,21 @@ use Rattle.jam_scope.specs.Changes.{rescoped, define_rule, define_actions}
 use Rattle.jam_values.specs.Choosing.{chosen}
 use Rattle.jam_values.specs.declared.bindings.Bound.{Bound}
 use Rattle.jam_values.specs.Bindings.{bindings_of}
-use Rattle.jam_eval.specs.Conds.{is_true, is_same, is_within}
-use Rattle.jam_eval.specs.declared.native_answer.NativeStep.TheVariants as steps
-use Rattle.jam_eval.proofs.RecordsOnlyGrow.{arg_begins, args_begins}
+use Rattle.jam_meaning.specs.Conds.{is_true, is_same, is_within}
+use Rattle.jam_meaning.specs.declared.native_answer.NativeStep.TheVariants as steps
+use Rattle.jam_meaning.proofs.RecordsOnlyGrow.{arg_begins, args_begins}
 use Rattle.jam_effects.specs.Framing.{on_entered}
 use Rattle.jam_effects.specs.Spots.{spot_of}
 use Rattle.jam_effects.specs.Machines.{machine}
 use Rattle.jam_effects.specs.Views.{value, truth, flow_of, values}
-use Rattle.jam_interp.specs.Parts.{arg_at, args_at, bracket_at, args_rest, lists_at, lists_rest, call_of_at, call_head_at, call_at, applied_at, on_inner_at, on_return_at, transformed_at, transformed_rest, filtered_at, filtered_rest, run_rule_at, unruled_at, stepped_at, bracket_call_at}
+use Rattle.jam_interp.specs.FunctionParts.{arg_at, args_at, bracket_at, args_rest, lists_at, lists_rest, call_of_at, call_head_at, call_at, applied_at, on_inner_at, on_return_at, transformed_at, transformed_rest, filtered_at, filtered_rest, run_rule_at, unruled_at, stepped_at, bracket_call_at}
 use Rattle.jam_effects.specs.Answers.{named_of}
 use Rattle.jam_effects.specs.declared.flow.Flow.TheVariants as ways
 use Rattle.jam_effects.specs.declared.fault.EvalFault.TheVariants as fault
 use Rattle.jam_effects.proofs.WhatEachKeepsAllKeep.{may_leave, stays_same, stays_then}
 use Rattle.jam_effects.proofs.OrderedCallsDoAsDefined.{leads_same, value_now, out_of_memory, weaker}
 use Rattle.jam_effects.proofs.RestBeginsWithNextItem.{next_item}
-use Rattle.jam_interp.proofs.ConditionsDoAsDefined.{made_fails, made_ends, two_first_fails, two_second_fails, two_end, truth_lent, same_lent, within_lent, any_fails, any_holds, any_goes, any_none, all_fails, all_fail, all_goes, all_hold, not_fails, not_ends, differ_fails, differ_ends}
+use Rattle.jam_interp.proofs.ConditionsDoAsDefined.{made_fails, made_ends, left_fails, right_fails, both_end, truth_lent, same_lent, within_lent, any_fails, any_holds, any_goes, any_none, all_fails, all_fail, all_goes, all_hold, not_fails, not_ends, differ_fails, differ_ends}
 use Rattle.jam_interp.proofs.OneLevelLessOrFault.{some_left}
 use Rattle.jam_interp.proofs.CodeDoesWhatTreesDo.{block_holds, test_does, or_does, and_does, form_does, switch_does, other_does, defines, value_given, value_empty}
 use Rattle.jam_interp.proofs.TargetBracketsDoAsDefined.{memory_here, memory_after, memory_led, by_texts, on_inner_fails, on_inner_does, on_return_fails, on_return_does, memory_in}
@@ -39,7 +39,7 @@ use Rattle.jam_interp.proofs.ArgumentsDoAsDefined.{does_at, gives_at, leads_at, 
 use Rattle.jam_interp.proofs.CallsDoAsDefined.{call_ends_early, call_ends_deep, call_turned, applied_rule, applied_none, ruled_fails, ruled_untold, ruled_ends, rule_arity, unruled_untold, unruled_recorded, unruled_fails, unruled_steps, gives_in_call, stepped_unknown, stepped_value, stepped_exit, stepped_filters, stepped_transforms, bracket_call_deep, bracket_call_opens, transformed_fails, transformed_end, filtered_begin, filtered_fails, filtered_end}
 use Rattle.jam_interp.proofs.RulesRunAsDefined.{found_binds, rule_does}
 use Rattle.jam_interp.proofs.FaultsAreHandedOn.{handed_on, handed_on_in_call}
-use Rattle.jam_interp.proofs.OnlyThreeFormsSetVariables.{these_set, no_others_set}
+use Rattle.jam_interp.proofs.AssigningFormsSetVariables.{these_set, no_others_set}
 use Rattle.jam_interp.proofs.+evaluation.Goals as goal
 
 -- ---- conditions
@@ -133,15 +133,15 @@ conditions::same-returns-in-Some g t c = same_lent c.args.left.now c.args.right.
 
 pub conditions::same-returns-in_err-first : goal.conditions::same-returns-in_err-first
 conditions::same-returns-in_err-first g t c =
-    handed_on c.from_residual.ensures.1 (two_first_fails is_same (arg_at c.args.left.now c.args.at.now) (arg_at c.args.right.now c.args.at.now) _ _ c.in_err-first.field-0.0
+    handed_on c.from_residual.ensures.1 (left_fails is_same (arg_at c.args.left.now c.args.at.now) (arg_at c.args.right.now c.args.at.now) _ _ c.in_err-first.field-0.0
     (λ setting later. arg_begins setting c.args.at.now.levels (arg_tree c.args.right.now) (spot_of c.args.at.now) later) c.in_err-first.ensures)
 
 pub conditions::same-returns-in_err-second : goal.conditions::same-returns-in_err-second
 conditions::same-returns-in_err-second g t c = handed_on c.from_residual-in_err-second.ensures.1
-    (two_second_fails is_same (arg_at c.args.left.now c.args.at.now) (arg_at c.args.right.now c.args.at.now) _ _ _ c.in_ok-first.first c.in_err-second.field-0.0 c.in_ok-first.ensures c.in_err-second.ensures)
+    (right_fails is_same (arg_at c.args.left.now c.args.at.now) (arg_at c.args.right.now c.args.at.now) _ _ _ c.in_ok-first.first c.in_err-second.field-0.0 c.in_ok-first.ensures c.in_err-second.ensures)
 
 pub conditions::same-returns : goal.conditions::same-returns
-conditions::same-returns g t c = two_end is_same (arg_at c.args.left.now c.args.at.now) (arg_at c.args.right.now c.args.at.now) _ _ _ c.in_ok-first.first c.in_ok-second.second c.is_same.result
+conditions::same-returns g t c = both_end is_same (arg_at c.args.left.now c.args.at.now) (arg_at c.args.right.now c.args.at.now) _ _ _ c.in_ok-first.first c.in_ok-second.second c.is_same.result
     (c.is_same.ensures ∙ ap (λ v. is_same v c.as_slice-2.result.now) c.as_slice.ensures ∙ ap (is_same c.in_ok-first.first) c.as_slice-2.ensures) c.in_ok-first.ensures c.in_ok-second.ensures
 
 pub conditions::among_list-returns-in-Some : goal.conditions::among_list-returns-in-Some
@@ -149,15 +149,15 @@ conditions::among_list-returns-in-Some g t c = within_lent c.args.value.now c.ar
 
 pub conditions::among_list-returns-in_err-texts : goal.conditions::among_list-returns-in_err-texts
 conditions::among_list-returns-in_err-texts g t c =
-    handed_on c.from_residual.ensures.1 (two_first_fails is_within (arg_at c.args.value.now c.args.at.now) (args_at c.args.among.now c.args.at.now) _ _ c.in_err-texts.field-0.0
+    handed_on c.from_residual.ensures.1 (left_fails is_within (arg_at c.args.value.now c.args.at.now) (args_at c.args.among.now c.args.at.now) _ _ c.in_err-texts.field-0.0
     (λ setting later. args_begins setting c.args.at.now.levels (args_tree c.args.among.now) (spot_of c.args.at.now) later) c.in_err-texts.ensures)
 
 pub conditions::among_list-returns-in_err-others : goal.conditions::among_list-returns-in_err-others
 conditions::among_list-returns-in_err-others g t c = handed_on c.from_residual-in_err-others.ensures.1
-    (two_second_fails is_within (arg_at c.args.value.now c.args.at.now) (args_at c.args.among.now c.args.at.now) _ _ _ c.in_ok-texts.texts c.in_err-others.field-0.0 c.in_ok-texts.ensures c.in_err-others.ensures)
+    (right_fails is_within (arg_at c.args.value.now c.args.at.now) (args_at c.args.among.now c.args.at.now) _ _ _ c.in_ok-texts.texts c.in_err-others.field-0.0 c.in_ok-texts.ensures c.in_err-others.ensures)
 
 pub conditions::among_list-returns : goal.conditions::among_list-returns
-conditions::among_list-returns g t c = two_end is_within (arg_at c.args.value.now c.args.at.now) (args_at c.args.among.now c.args.at.now) _ _ _ c.in_ok-texts.texts c.in_ok-others.others c.is_within.result
+conditions::among_list-returns g t c = both_end is_within (arg_at c.args.value.now c.args.at.now) (args_at c.args.among.now c.args.at.now) _ _ _ c.in_ok-texts.texts c.in_ok-others.others c.is_within.result
     (c.is_within.ensures ∙ ap (λ v. is_within v c.as_slice-2.result.now) c.as_slice.ensures ∙ ap (is_within c.in_ok-texts.texts) c.as_slice-2.ensures) c.in_ok-texts.ensures c.in_ok-others.ensures
 
 -- ---- statements

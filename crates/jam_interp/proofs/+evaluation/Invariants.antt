@@ -1,6 +1,6 @@
 use Rattle.std.proofs.Common.{◌<◌, ℕ, ◌+◌, ◌*◌, drop}
 use Rattle.jam_effects.specs.Does.{LeadsOn}
-use Rattle.jam_interp.specs.Parts.{args_at, lists_at, any_of_at, all_of_at, stmts_at, rounds_at, while_at, transformed_at, filtered_at, args_rest, lists_rest, transformed_rest, filtered_rest, while_rest}
+use Rattle.jam_interp.specs.FunctionParts.{args_at, lists_at, any_of_at, all_of_at, stmts_at, rounds_at, while_at, transformed_at, filtered_at, args_rest, lists_rest, transformed_rest, filtered_rest, while_rest}
 use Rattle.jam_interp.proofs.+evaluation.Given as goal
 
 abbrev pub decreases-arguments::arg : goal.decreases-arguments::arg

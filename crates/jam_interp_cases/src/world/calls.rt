@@ -5,7 +5,7 @@ use crate::world::quoted::push_quoted;
 use crate::world::session::Scene;
 use b2_base::text::Text;
 use b2_base::text_list::TextList;
-use jam_eval::natives::{NativeError, NativeStep, Natives};
+use jam_meaning::natives::{NativeError, NativeStep, Natives};
 use jam_natives::decl::Decl;
 use jam_natives::natives::JamNatives;
 use jam_patterns::native_fault::NativeFault;

@@ -2,7 +2,7 @@
 use crate::world::quoted::push_quoted;
 use b2_base::text_list::{TextList, list_at};
 use jam_natives::output_dirs::{names_output_dirs, root_paths};
-use jam_natives::target::{Named, first_foreign};
+use jam_natives::target::{StepPaths, first_foreign};
 use std::alloc::Global;
 use std::mem::ManuallyDrop;
 use transcript::answer::Answer;
@@ -14,7 +14,7 @@ fn foreign(alloc: Global, given: &[TextList]) -> Result<Answer, CaseFault> {
     let outs = paths_of(alloc, list_at(given, 0))?;
     let ins = paths_of(alloc, list_at(given, 1))?;
     let added = paths_of(alloc, list_at(given, 2))?;
-    let named = Named {
+    let named = StepPaths {
         outs: outs.as_slice(),
         ins: ins.as_slice(),
         added: added.as_slice(),

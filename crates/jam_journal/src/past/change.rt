@@ -3,7 +3,7 @@ ghost use Rattle.std.specs.Prelude.{◌≡◌, [], ◌∷◌, ◌++◌, reverse,
 ghost use Rattle.std.specs.FinMap as map;
 ghost use Rattle.jam_journal.specs.Pasts.{noted_at, undone};
 
-use super::Replaced;
+use super::Replacement;
 use crate::name::Name;
 use crate::table::Table;
 use b2_base::fault::OutOfMemory;
@@ -13,7 +13,7 @@ use std::alloc::Global;
 pub fn insert_noted<V: Drop>(
     alloc: Global,
     table: &mut Table<V>,
-    changes: &mut Vec<Replaced<V>>,
+    changes: &mut Vec<Replacement<V>>,
     first: &str,
     second: &str,
     value: V,
@@ -27,7 +27,7 @@ pub fn insert_noted<V: Drop>(
     let second_name = Name::new(alloc, second)?;
     changes.reserve(1)?;
     let before = table.insert(alloc, first, second, value)?;
-    changes.push_reserved(Replaced {
+    changes.push_reserved(Replacement {
         first: first_name,
         second: second_name,
         before,
@@ -36,12 +36,12 @@ pub fn insert_noted<V: Drop>(
 }
 
 /// Takes all changes back, the newest first. Takes no memory.
-pub fn undo<V: Drop>(table: &mut Table<V>, changes: &mut Vec<Replaced<V>>)
+pub fn undo<V: Drop>(table: &mut Table<V>, changes: &mut Vec<Replacement<V>>)
     ensures table { table.new ≡ undone (reverse changes.old.items) table.old }
     ensures changes { changes.new.items ≡ [] }
 {
     while let Some(change) = changes.pop() {
-        let Replaced {
+        let Replacement {
             first,
             second,
             before,

@@ -5,7 +5,7 @@ ghost use Rattle.jam_journal.specs.Stacks.{in_frame, in_call, with_bound, bound_
 
 use super::{Cell, Registers, Scope, is_special};
 use crate::name::Name;
-use crate::past::{Replaced, change};
+use crate::past::{Replacement, change};
 use b2_base::fault::OutOfMemory;
 use std::alloc::Global;
 use std::mem;
@@ -134,7 +134,7 @@ pub fn put_cell(
 pub fn set(
     alloc: Global,
     registers: &mut Registers,
-    changes: &mut Vec<Replaced<Cell>>,
+    changes: &mut Vec<Replacement<Cell>>,
     is_fresh: bool,
     name: &str,
     cell: Cell,

@@ -12,7 +12,10 @@ use jam_journal::past_lists::PastLists;
 use jam_journal::saved::Saved;
 
 /// Marks two tables, or none of them.
-fn mark_two<A: Drop, B: Drop>(first: &mut Past<A>, second: &mut Past<B>) -> Result<(), OutOfMemory>
+fn mark_tables<A: Drop, B: Drop>(
+    first: &mut Past<A>,
+    second: &mut Past<B>,
+) -> Result<(), OutOfMemory>
     ensures first { OnOk result (first.new ≡ marked first.old) }
     ensures second { OnOk result (second.new ≡ marked second.old) }
     ensures same_first { OnErr result (first.new ≡ first.old) }
@@ -53,7 +56,7 @@ fn mark_parents(
 }
 
 /// Marks three values, or none of them.
-fn mark_three<A: Drop, B: Drop, C: Drop>(
+fn mark_values<A: Drop, B: Drop, C: Drop>(
     first: &mut Saved<A>,
     second: &mut Saved<B>,
     third: &mut Saved<C>,
@@ -79,7 +82,7 @@ fn mark_three<A: Drop, B: Drop, C: Drop>(
 }
 
 /// Marks parents, a table, three values and the notes of a step, or none of them.
-fn mark_six<A: Drop, B: Drop, C: Drop>(
+fn mark_others<A: Drop, B: Drop, C: Drop>(
     first: &mut Parents,
     second: &mut PastLists,
     third: &mut Saved<A>,
@@ -100,7 +103,7 @@ fn mark_six<A: Drop, B: Drop, C: Drop>(
     ensures same_fifth { OnErr result (fifth.new ≡ fifth.old) }
     ensures same_sixth { OnErr result (sixth.new ≡ sixth.old) }
 {
-    mark_three(third, fourth, fifth)?;
+    mark_values(third, fourth, fifth)?;
     if let Err(fault) = mark_parents(first, second, sixth) {
         third.roll_back();
         fourth.roll_back();
@@ -122,11 +125,11 @@ impl World {
     {
         let before = self.variables.marks();
         self.variables.mark()?;
-        if let Err(fault) = mark_two(&mut self.rules, &mut self.actions) {
+        if let Err(fault) = mark_tables(&mut self.rules, &mut self.actions) {
             self.variables.roll_back();
             return Err(fault);
         }
-        let marked = mark_six(
+        let marked = mark_others(
             &mut self.parents,
             &mut self.own,
             &mut self.place,

@@ -2,9 +2,9 @@ use Rattle.std.proofs.Common.{◌∙◌, ◌++◌, ℕ, List, ap, ap₂}
 use Rattle.std.proofs.lemmas.Result.{IfOk-weaker}
 use Rattle.b2_props.specs.Sets.{Pair, set_of}
 use Rattle.b2_props.specs.Refinement.{expanded}
-use Rattle.b2_metatargets.specs.declared.whole.Declared.{Declared}
+use Rattle.b2_declared.specs.declared.whole.Declared.{Declared}
 use Rattle.b2_references.specs.Names.{features, default_build}
-use Rattle.b2_texts.specs.Missing.{missing}
+use Rattle.b2_property_texts.specs.Missing.{missing}
 use Rattle.b2_alternatives.proofs.choosing.full_set.Goals as goal
 
 pub returns-clause-value : goal.returns-clause-value

@@ -1,7 +1,7 @@
 use Rattle.std.proofs.Common.{◌≡◌, ◌∙◌, Err, refl, sym, ap, subst}
 use Rattle.std.proofs.lemmas.Result.{err_from_is_err_and}
 use Rattle.b2_props.specs.Sets.{IsSet}
-use Rattle.b2_metatargets.specs.declared.whole.Declared.{Declared}
+use Rattle.b2_declared.specs.declared.whole.Declared.{Declared}
 use Rattle.b2_references.specs.Names.{Name, features, target_text}
 use Rattle.b2_alternatives.specs.declared.fault.ChoiceFault.TheVariants.{Unstable}
 use Rattle.b2_alternatives.proofs.ChoiceFollowsSettling.{memory, settle_ok, settle_asked, settle_unstable}

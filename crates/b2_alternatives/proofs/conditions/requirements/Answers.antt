@@ -2,7 +2,7 @@ use Rattle.std.proofs.Common.{◌∙◌, ◌++◌, List, ap, ap₂}
 use Rattle.std.specs.Borrow.{Bor}
 use Rattle.std.specs.List.{flat_map}
 use Rattle.b2_props.specs.declared.requirement.Requirement.{Requirement}
-use Rattle.b2_metatargets.specs.declared.place.Place.{Place}
+use Rattle.b2_declared.specs.declared.place.Place.{Place}
 use Rattle.b2_alternatives.proofs.MapsComposeAndGrow.{flat_after}
 use Rattle.b2_alternatives.proofs.conditions.requirements.Goals as goal
 

@@ -1,6 +1,6 @@
 use Rattle.std.proofs.Common.{List}
 use Rattle.b2_references.specs.Names.{Name}
-use Rattle.b2_alternatives.specs.Standing.{AreKnown, AreMet}
+use Rattle.b2_alternatives.specs.DependencyWork.{AreKnown, AreMet}
 use Rattle.b2_alternatives.proofs.need_list.first_next.Given as goal
 
 -- the needs before the place are met

@@ -3,7 +3,7 @@ use Rattle.std.specs.List.{find}
 use Rattle.std.specs.Option.{option_copied, option_map_or}
 use Rattle.b2_alternatives.specs.declared.need.Next.TheVariants.{Complete, Due}
 use Rattle.b2_alternatives.specs.Needs.{first_due, next_by}
-use Rattle.b2_alternatives.specs.Standing.{is_known}
+use Rattle.b2_alternatives.specs.DependencyWork.{is_known}
 use Rattle.b2_alternatives.proofs.FirstUnmetNeedComesNext.{due_by}
 use Rattle.b2_alternatives.proofs.need_list.next_by.Goals as goal
 

@@ -1,5 +1,5 @@
 use Rattle.std.proofs.Common.{◌∙◌, ap, sym}
-use Rattle.b2_alternatives.specs.declared.reading.Reading.TheVariants.{Properties, Bad}
+use Rattle.b2_alternatives.specs.declared.reading.ReturnedProperties.TheVariants.{Properties, Bad}
 use Rattle.b2_alternatives.proofs.FirstBadTextStopsReading.{answered_next, answered_stop}
 use Rattle.b2_alternatives.proofs.reading.answered.Goals as goal
 

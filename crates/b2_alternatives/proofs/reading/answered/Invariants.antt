@@ -1,6 +1,6 @@
 use Rattle.std.proofs.Common.{◌≡◌, take}
 use Rattle.b2_alternatives.specs.Choosing.{answered}
-use Rattle.b2_alternatives.specs.declared.reading.Reading.TheVariants.{Properties}
+use Rattle.b2_alternatives.specs.declared.reading.ReturnedProperties.TheVariants.{Properties}
 use Rattle.b2_alternatives.proofs.reading.answered.Given as goal
 
 -- the texts so far are properties

@@ -1,7 +1,7 @@
 use Rattle.std.proofs.Common.{◌∙◌, is_some, ap, lit<}
 use Rattle.std.specs.Prelude.{codes}
-use Rattle.b2_texts.specs.Cuts.{cut_at}
-use Rattle.b2_texts.proofs.CutIsAtFirstMark.{cut_of}
+use Rattle.b2_property_texts.specs.Cuts.{cut_at}
+use Rattle.b2_property_texts.proofs.CutIsAtFirstMark.{cut_of}
 use Rattle.b2_alternatives.proofs.FirstBadTextStopsReading.{some_mapped}
 use Rattle.b2_alternatives.proofs.reading.is_conditional.Goals as goal
 

@@ -1,6 +1,6 @@
 use Rattle.std.proofs.Common.{◌∙◌, sym, ap}
 use Rattle.std.proofs.lemmas.Result.{IfOk-weaker}
-use Rattle.b2_metatargets.specs.declared.whole.Declared.{Declared as Whole}
+use Rattle.b2_declared.specs.declared.whole.Declared.{Declared as Whole}
 use Rattle.b2_alternatives.specs.Usage.{yielding, own_levels}
 use Rattle.b2_alternatives.proofs.LevelsYieldToThoseBelow.{levels_are, nothing_asked}
 use Rattle.b2_alternatives.proofs.usage.own_usage.Goals as goal

@@ -5,7 +5,7 @@ use Rattle.b2_refusals.specs.Lines.{usage_line}
 use Rattle.b2_top.specs.declared.answer.Answer.TheVariants as answers
 use Rattle.b2_update.specs.Moments.{moment}
 use Rattle.b2_drill_call.specs.Asked.{drill_of}
-use Rattle.b2_drill_call.specs.Drilled.{GoesWell}
+use Rattle.b2_drill_call.specs.Drilled.{GoesWithoutFaults}
 use Rattle.b2_drill_call.proofs.DrillsHaveTargets.{few_targets}
 use Rattle.b2_drill_call.proofs.SummariesTellDrills.{says_keeps, asked_for, refused, usage_said, no_drill, gone_asked, gone_refused, gone_nowhere}
 use Rattle.b2_drill_call.proofs.drill.run_drill.Goals as goal
@@ -25,7 +25,7 @@ returns-in-Ok-clause-alone g c = λ none. no_drill (drill_of c.args.words.now) c
 
 pub returns-in-Ok-clause-gone : goal.returns-in-Ok-clause-gone
 returns-in-Ok-clause-gone g c =
-    gone_asked (λ n. GoesWell n (told_outside c.args.host.now) (told_outside c.drill.new.host)) (drill_of c.args.words.now) c.in-Ok.n c.in-Ok.ensures.ok
+    gone_asked (λ n. GoesWithoutFaults n (told_outside c.args.host.now) (told_outside c.drill.new.host)) (drill_of c.args.words.now) c.in-Ok.n c.in-Ok.ensures.ok
     (c.drill.ensures.gone (few_targets c.args.words.now c.in-Ok.n c.in-Ok.ensures.ok))
 
 -- ---- they do not
@@ -43,7 +43,7 @@ returns-in-Err-Usage-clause-alone g c = λ none. refl
 
 pub returns-in-Err-Usage-clause-gone : goal.returns-in-Err-Usage-clause-gone
 returns-in-Err-Usage-clause-gone g c =
-    gone_refused (λ n. GoesWell n (told_outside c.args.host.now) (told_outside c.args.host.now)) (drill_of c.args.words.now) (c.in-Err-Usage.ensures.usage (ap Err c.in-Err-Usage.field-0-is))
+    gone_refused (λ n. GoesWithoutFaults n (told_outside c.args.host.now) (told_outside c.args.host.now)) (drill_of c.args.words.now) (c.in-Err-Usage.ensures.usage (ap Err c.in-Err-Usage.field-0-is))
 
 pub returns-in-Err-Usage-clause-out_keeps : goal.returns-in-Err-Usage-clause-out_keeps
 returns-in-Err-Usage-clause-out_keeps g c = says_keeps answers.Usage usage_line (g.S.Sink.output c.args.out.now) (g.S.Sink.output c.tell_usage.new.out) c.tell_usage.result c.tell_usage.ensures

@@ -5,7 +5,7 @@ use Rattle.b2_features.specs.declared.fault.FeatureFault.{FeatureFault}
 use Rattle.b2_features.specs.Faults.{IsBy}
 use Rattle.b2_features.proofs.OutcomesPassOnWhatHolds.{on_ok}
 use Rattle.b2_gcc.specs.Tables.{features, composites}
-use Rattle.b2_gcc.specs.Calls.{features_fault, composites_fault, with_composite, toolset_fault}
+use Rattle.b2_gcc.specs.TableDeclarations.{features_fault, composites_fault, with_composite, toolset_fault}
 use Rattle.b2_gcc.proofs.FirstCauseIsTheFault.{earlier_fault, later_fault}
 use Rattle.b2_gcc.proofs.features.declare_features.Goals as goal
 

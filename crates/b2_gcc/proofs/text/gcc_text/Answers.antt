@@ -1,7 +1,7 @@
 use Rattle.std.proofs.Common.{◌≡◌, ◌∙◌, ℕ, List, ◌++◌, ap, ap₂}
 use Rattle.std.specs.Option.{option_copied}
 use Rattle.jam_spelling.specs.Spelling.{spelling, bytes_of}
-use Rattle.jam_spelling.specs.Standing.{word}
+use Rattle.jam_spelling.specs.LexemeLists.{word}
 use Rattle.b2_gcc.specs.BuildText.{command_in, before_command, after_command}
 use Rattle.b2_gcc.proofs.OneWordIsItsSpelling.{one_word}
 use Rattle.b2_gcc.proofs.text.gcc_text.Goals as goal

@@ -1,7 +1,7 @@
 use Rattle.std.proofs.Common.{◌≡◌, ◌∙◌, true, false, sym, ap}
 use Rattle.b2_generators.specs.Table.{Registered}
 use Rattle.b2_gcc.specs.Tables.{generators}
-use Rattle.b2_gcc.specs.Calls.{are_generators_refused}
+use Rattle.b2_gcc.specs.TableDeclarations.{are_generators_refused}
 use Rattle.b2_gcc.proofs.FreshTablesRefuseNothing.{generators_fresh}
 use Rattle.b2_gcc.proofs.types.declare_generators.Goals as goal
 

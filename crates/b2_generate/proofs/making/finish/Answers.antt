@@ -1,7 +1,7 @@
 use Rattle.std.proofs.Common.{reverse, refl}
 use Rattle.b2_alternatives.specs.Picking.{seen}
 use Rattle.b2_generate.specs.Machine.{standing_of}
-use Rattle.b2_generate.specs.Told.{loaded_of}
+use Rattle.b2_generate.specs.ToldOutcomes.{loaded_of}
 use Rattle.b2_generate.proofs.EarlyExitGivesTheFault.{exit_is, none_made, is_refused, same_left, out_left}
 use Rattle.b2_generate.proofs.StepsAreThoseDefined.{grows_none, finishes}
 use Rattle.b2_generate.proofs.making.finish.Goals as goal

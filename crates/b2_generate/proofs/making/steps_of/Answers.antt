@@ -1,11 +1,11 @@
 use Rattle.std.proofs.Common.{reverse, Ok, refl, sym, ap, subst, ◌∙◌}
-use Rattle.b2_conversions.specs.Answers.{IsRefused}
+use Rattle.b2_making.specs.Answers.{IsRefused}
 use Rattle.b2_props.specs.Sets.{IsSet}
 use Rattle.b2_alternatives.specs.Picking.{seen}
 use Rattle.b2_references.specs.Names.{dir_of}
 use Rattle.b2_generate.specs.Machine.{standing_of}
 use Rattle.b2_generate.specs.Making.{IsHome}
-use Rattle.b2_generate.specs.Told.{loaded_of}
+use Rattle.b2_generate.specs.ToldOutcomes.{loaded_of}
 use Rattle.b2_generate.proofs.EarlyExitGivesTheFault.{exit_is, none_made, is_refused, out_left}
 use Rattle.b2_generate.proofs.StepsAreThoseDefined.{grows_none, acts_are, refusal}
 use Rattle.b2_generate.proofs.making.steps_of.Goals as goal

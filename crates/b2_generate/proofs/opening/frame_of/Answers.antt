@@ -2,7 +2,7 @@ use Rattle.std.proofs.Common.{refl, sym, subst}
 use Rattle.b2_props.specs.Sets.{IsSet}
 use Rattle.b2_references.specs.Names.{features}
 use Rattle.b2_alternatives.specs.Needs.{at_first}
-use Rattle.b2_alternatives.specs.Standing.{StandAt}
+use Rattle.b2_alternatives.specs.DependencyWork.{StandAt}
 use Rattle.b2_generate.proofs.EarlyExitGivesTheFault.{exit_is, none_made}
 use Rattle.b2_generate.proofs.opening.frame_of.Goals as goal
 

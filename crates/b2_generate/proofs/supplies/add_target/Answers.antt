@@ -2,7 +2,7 @@ use Rattle.std.proofs.Common.{◌++◌, ◌∷◌, [], map, reverse, Some, ap, s
 use Rattle.std.specs.Prelude.{OnOk}
 use Rattle.std.specs.Option.{option_copied}
 use Rattle.std.proofs.lemmas.Result.{on_ok_weaker}
-use Rattle.b2_alternatives.specs.Standing.{AreKnown}
+use Rattle.b2_alternatives.specs.DependencyWork.{AreKnown}
 use Rattle.b2_generate.specs.Nodes.{entry_in}
 use Rattle.b2_generate.proofs.SupplyGathersPartByPart.{gathers_seen, gathers_bare, gathers_given}
 use Rattle.b2_generate.proofs.supplies.add_target.Goals as goal

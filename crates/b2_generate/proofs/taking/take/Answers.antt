@@ -1,6 +1,6 @@
 use Rattle.std.proofs.Common.{reverse}
 use Rattle.b2_generate.specs.Machine.{standing_of}
-use Rattle.b2_generate.specs.Standing.{under}
+use Rattle.b2_generate.specs.OpenTargets.{under}
 use Rattle.b2_generate.proofs.EarlyExitGivesTheFault.{exit_is, none_made}
 use Rattle.b2_generate.proofs.NodeIsTakenOrClashes.{takes_node, clashes_node, added, conflict_out}
 use Rattle.b2_generate.proofs.taking.take.Goals as goal

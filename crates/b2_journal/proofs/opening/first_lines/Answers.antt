@@ -1,6 +1,6 @@
 use Rattle.std.proofs.Common.{refl, subst}
 use Rattle.std.proofs.lemmas.Bool.{false≢true}
-use Rattle.b2_journal.specs.declared.reading.LogState.{LogState}
+use Rattle.b2_journal.specs.declared.log_reading.LogState.{LogState}
 use Rattle.b2_journal.specs.Rules.{opening_by}
 use Rattle.b2_journal.specs.Readings.{Stands}
 use Rattle.b2_journal.proofs.FirstLinesAreChosen.{missing_stays, whole_stays, large_is_replaced, torn_begins, long_begins, kept_so}

@@ -9,7 +9,7 @@ use Rattle.b2_log.specs.Good.{IsProper}
 use Rattle.b2_log.specs.Finding.{find_record}
 use Rattle.b2_verdicts.specs.declared.point.Point.{Point}
 use Rattle.b2_verdicts.specs.Points.{IsPoint}
-use Rattle.b2_verdicts.specs.Calls.{IsOfStep, LastTellsUnless, Always, Asks}
+use Rattle.b2_verdicts.specs.VerdictCalls.{IsOfStep, LastTellsUnless, Always, Asks}
 use Rattle.b2_verdicts.specs.Digested.{AreFound}
 use Rattle.b2_verdicts.proofs.WhatIsKnownStays.{numbers_stay, stands_asked}
 use Rattle.b2_looks.specs.Judging.{JudgeTold}

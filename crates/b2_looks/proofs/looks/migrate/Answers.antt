@@ -13,7 +13,7 @@ use Rattle.b2_facts.specs.Facts.{IsAbout}
 use Rattle.b2_verdicts.specs.Made.{AreRising, IsMadeOf, IsWithoutFile}
 use Rattle.b2_facts.specs.Stops.{stop_of_io}
 use Rattle.b2_facts.proofs.FactsGrow.{learns_same}
-use Rattle.b2_verdicts.specs.Calls.{IsOfStep, Always, Asks}
+use Rattle.b2_verdicts.specs.VerdictCalls.{IsOfStep, Always, Asks}
 use Rattle.b2_looks.specs.Judging.{MigrateTold}
 use Rattle.b2_looks.proofs.LooksAreKept.{includes_same}
 use Rattle.b2_looks.proofs.FilesAreLookedAt.{looks_none, looks_asked, looks_err, looks_ok, looks_then, looks_noted, looks_not_noted}

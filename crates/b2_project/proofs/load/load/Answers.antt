@@ -1,6 +1,6 @@
 use Rattle.std.proofs.Common.{◌≡◌, [], is_some, false}
 use Rattle.b2_project.specs.Loading.{HasParentsBefore}
-use Rattle.b2_metatargets.specs.Numbered.{IsNumbered}
+use Rattle.b2_declared.specs.Numbered.{IsNumbered}
 use Rattle.b2_project.proofs.LoadsAnswerWhatIsDeclared.{ended_by}
 use Rattle.b2_project.proofs.LoadsWalkRunThenDeclare.{told_load, whole_load, counts_load, ready_load, ready_as, declares_load, refuses_load, lines_load}
 use Rattle.b2_project.proofs.load.load.Goals as goal

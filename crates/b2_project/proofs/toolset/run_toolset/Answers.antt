@@ -1,6 +1,6 @@
 use Rattle.std.proofs.Common.{Ok, Err, subst}
 use Rattle.std.proofs.lemmas.Result.{err_from_is_err_and}
-use Rattle.b2_project.specs.Parts.{IsTextOf}
+use Rattle.b2_project.specs.LoadParts.{IsTextOf}
 use Rattle.b2_project.proofs.ToolsetRunsAfterTheWalk.{text_as, nothing_brought, text_unread, text_ran}
 use Rattle.b2_project.proofs.toolset.run_toolset.Goals as goal
 

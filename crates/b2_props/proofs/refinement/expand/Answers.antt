@@ -3,7 +3,7 @@ use Rattle.b2_props.specs.Sets.{Pair, IsSet, value_of}
 use Rattle.b2_props.specs.Refinement.{components, defaults}
 use Rattle.b2_props.specs.Laws.{KeepsValues, HasAllValues, KeepsFree}
 use Rattle.b2_props.proofs.WrittenValuesMakeASet.{made_set}
-use Rattle.b2_props.proofs.RequiredWinsOthersStay.{if_both, if_three, expanded_values, expanded_all, expanded_free}
+use Rattle.b2_props.proofs.RequiredWinsOthersStay.{if_both, if_all_told, expanded_values, expanded_all, expanded_free}
 use Rattle.b2_props.proofs.refinement.expand.Goals as goal
 
 pub returns-clause-set : goal.returns-clause-set
@@ -21,7 +21,7 @@ returns-clause-kept c =
 pub returns-clause-all : goal.returns-clause-all
 returns-clause-all c =
     let table = c.args.registry.now in
-    if_three c.completed_set.result c.completed_set.ensures.distinct c.completed_set.ensures.whole c.completed_set.ensures.value
+    if_all_told c.completed_set.result c.completed_set.ensures.distinct c.completed_set.ensures.whole c.completed_set.ensures.value
     (λ made distinct whole is. subst (HasAllValues table) (sym is) (expanded_all table c.args.set.now distinct whole))
 
 pub returns-clause-free : goal.returns-clause-free

@@ -6,7 +6,7 @@ use Rattle.b2_plan.specs.declared.step.Step.{Step}
 use Rattle.b2_facts.specs.Facts.{Knowledge}
 use Rattle.b2_facts.specs.Truth.{StaysTrue}
 use Rattle.b2_sched.specs.Schedules.{IsSettled}
-use Rattle.b2_facts.specs.declared.stop.Stop.TheVariants as stops
+use Rattle.b2_facts.specs.declared.stop.FilesStop.TheVariants as stops
 use Rattle.b2_facts.proofs.ListsAtPlaces.{some_is}
 use Rattle.b2_reach.specs.declared.due.Due.{Due}
 use Rattle.b2_reach.specs.Dues.{IsDue}

@@ -1,5 +1,5 @@
 use Rattle.std.specs.Borrow.{Bor}
-use Rattle.b2_metatargets.specs.declared.place.Target.{Target}
+use Rattle.b2_declared.specs.declared.place.Target.{Target}
 use Rattle.b2_references.proofs.LoopsTakeOneMore.{first_here, first_not_here}
 use Rattle.b2_references.proofs.lookups.first_of_targets.Goals as goal
 

@@ -1,6 +1,6 @@
 use Rattle.std.proofs.Common.{◌≡◌, ◌++◌, map}
 use Rattle.std.specs.Vec.Iter.{into_iter_items}
-use Rattle.b2_references.specs.declared.asked.Asked.TheVariants.{Main}
+use Rattle.b2_references.specs.declared.asked.AskedPiece.TheVariants.{Main}
 use Rattle.b2_references.proofs.requests.push_mains.Given as goal
 
 -- the pieces so far, with those that are left

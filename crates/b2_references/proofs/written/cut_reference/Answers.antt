@@ -1,6 +1,6 @@
 use Rattle.std.proofs.Common.{lit<}
 use Rattle.std.specs.Prelude.{codes}
-use Rattle.b2_texts.proofs.CutIsAtFirstMark.{cut_of, cut_clean}
+use Rattle.b2_property_texts.proofs.CutIsAtFirstMark.{cut_of, cut_clean}
 use Rattle.b2_references.proofs.written.cut_reference.Goals as goal
 
 pub returns-clause-cut : goal.returns-clause-cut

@@ -1,5 +1,5 @@
 use Rattle.std.proofs.lemmas.Bool.{iff_false}
-use Rattle.b2_refine.proofs.LastTwoRoundsDecide.{two_settled, two_unstable}
+use Rattle.b2_refine.proofs.LastRoundsDecide.{two_settled, two_unstable}
 use Rattle.b2_refine.proofs.evaluate.evaluate.Goals as goal
 
 pub returns-then-equals-clause-settled : goal.returns-then-equals-clause-settled

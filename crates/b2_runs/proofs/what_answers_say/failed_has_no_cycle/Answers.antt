@@ -1,4 +1,4 @@
-use Rattle.b2_runs.proofs.NoTwoAnswers.{failed_has_no_cycle}
+use Rattle.b2_runs.proofs.AnswersExcludeEachOther.{failed_has_no_cycle}
 use Rattle.b2_runs.proofs.what_answers_say.failed_has_no_cycle.Goals as goal
 
 pub returns : goal.returns

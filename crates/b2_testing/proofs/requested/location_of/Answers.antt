@@ -3,8 +3,8 @@ use Rattle.std.specs.Prelude.{codes}
 use Rattle.std.specs.Str.{bytes_eq}
 use Rattle.std.specs.Option.{option_copied}
 use Rattle.b2_props.proofs.RepeatedPairsAddNothing.{text_sym}
-use Rattle.b2_conversions.specs.Steps.{location_of}
-use Rattle.b2_conversions.proofs.MadeTextsHaveNoZero.{location_next}
+use Rattle.b2_making.specs.Steps.{location_of}
+use Rattle.b2_making.proofs.MadeTextsHaveNoZero.{location_next}
 use Rattle.b2_testing.proofs.requested.location_of.Goals.{then-eq, else-eq}
 use Rattle.b2_testing.proofs.requested.location_of.Goals as goal
 

@@ -1,6 +1,6 @@
 use Rattle.std.proofs.Common.{◌≡◌, take}
 use Rattle.std.specs.Option.{option_copied}
-use Rattle.b2_conversions.specs.Steps.{location_of}
+use Rattle.b2_making.specs.Steps.{location_of}
 use Rattle.b2_testing.proofs.requested.location_of.Given as goal
 
 abbrev pub invariant-loop-pair : goal.invariant-loop-pair

@@ -2,7 +2,7 @@ use Rattle.std.proofs.Common.{ap, ◌∙◌}
 use Rattle.std.specs.List.{list_any}
 use Rattle.std.specs.Str.{bytes_eq}
 use Rattle.std.proofs.lemmas.Result.{IfOk-weaker}
-use Rattle.b2_planning.specs.TableRows.{rows_of}
+use Rattle.b2_request_plan.specs.TableRows.{rows_of}
 use Rattle.b2_testing.specs.Asking.{tests_by}
 use Rattle.b2_testing.proofs.RowsAreLookedUp.{asked_for}
 use Rattle.b2_testing.proofs.requested.over_index.Goals as goal

@@ -1,8 +1,8 @@
 use Rattle.std.proofs.Common.{ℕ, List, Result, IfSome, IfErr, subst}
 use Rattle.b2_host.specs.Disks.{Disk}
-use Rattle.b2_front.specs.Preparing.{IsPrepared, Counts, IsWhole}
-use Rattle.b2_front.specs.declared.refusal.Stop.{Stop}
-use Rattle.b2_planning.specs.declared.planned.Planned.{Planned}
+use Rattle.b2_prepare.specs.Preparing.{IsPrepared, Counts, IsWhole}
+use Rattle.b2_prepare.specs.declared.refusal.PlanStop.{PlanStop}
+use Rattle.b2_request_plan.specs.declared.planned.Planned.{Planned}
 use Rattle.b2_update.specs.Moments.{moment}
 use Rattle.b2_top.specs.Writing.{AnswersStop}
 use Rattle.b2_top.specs.Cleans.{CleansPlan}
@@ -19,8 +19,8 @@ returns-in-Ok g c = λ words asked.
     let free = c.args.words.now in
     let echoes = c.prepare-echoes.result.echoes in
     let planned = c.in-Ok.planned in
-    let told = subst (λ (r : Result Planned Stop). IfSome h0.disk (λ (disk : Disk). IsPrepared disk free echoes r)) c.in-Ok.is c.prepare-echoes.ensures.told in
-    let same = subst (λ (r : Result Planned Stop). Counts r h0 h1) c.in-Ok.is c.prepare-echoes.ensures.counts in
+    let told = subst (λ (r : Result Planned PlanStop). IfSome h0.disk (λ (disk : Disk). IsPrepared disk free echoes r)) c.in-Ok.is c.prepare-echoes.ensures.told in
+    let same = subst (λ (r : Result Planned PlanStop). Counts r h0 h1) c.in-Ok.is c.prepare-echoes.ensures.counts in
     let cleans = subst (λ (lines : List (List ℕ)). CleansPlan lines planned.plan (moment h1 o0) (moment h2 o2) c.clean_steps.result) c.as_slice.ensures c.clean_steps.ensures in
     answered_plan c.one_meaning.ensures words free asked h0 h1 o0 echoes c.prepare-echoes.ensures.disk c.prepare-echoes.ensures.children c.prepare-echoes.ensures.keeps
     planned told same h2 o2 c.clean_steps.result cleans
@@ -33,9 +33,9 @@ returns g c = λ words asked.
     let o1 = g.S.Sink.output c.tell_stop.new.out in
     let free = c.args.words.now in
     let echoes = c.prepare-echoes.result.echoes in
-    let told = subst (λ (r : Result Planned Stop). IfSome h0.disk (λ (disk : Disk). IsPrepared disk free echoes r)) c.in-Err.is c.prepare-echoes.ensures.told in
-    let whole = subst (λ (r : Result Planned Stop). IfErr r IsWhole) c.in-Err.is c.prepare-echoes.ensures.whole in
-    let counts = subst (λ (r : Result Planned Stop). Counts r h0 h1) c.in-Err.is c.prepare-echoes.ensures.counts in
+    let told = subst (λ (r : Result Planned PlanStop). IfSome h0.disk (λ (disk : Disk). IsPrepared disk free echoes r)) c.in-Err.is c.prepare-echoes.ensures.told in
+    let whole = subst (λ (r : Result Planned PlanStop). IfErr r IsWhole) c.in-Err.is c.prepare-echoes.ensures.whole in
+    let counts = subst (λ (r : Result Planned PlanStop). Counts r h0 h1) c.in-Err.is c.prepare-echoes.ensures.counts in
     let says = subst (λ (lines : List (List ℕ)). AnswersStop lines c.in-Err.stop o0 o1 c.tell_stop.result) c.as_slice-in-Err.ensures c.tell_stop.ensures in
     answered_stop c.one_meaning.ensures words free asked h0 h1 o0 echoes c.prepare-echoes.ensures.disk c.prepare-echoes.ensures.children c.prepare-echoes.ensures.keeps
     o1 c.in-Err.stop c.tell_stop.result told whole counts says

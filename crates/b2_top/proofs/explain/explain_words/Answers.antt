@@ -1,7 +1,7 @@
 use Rattle.std.proofs.Common.{ℕ, List, Result, IfSome, IfErr, subst}
-use Rattle.b2_front.specs.Preparing.{IsPrepared, Counts, IsWhole}
-use Rattle.b2_front.specs.declared.refusal.Stop.{Stop}
-use Rattle.b2_planning.specs.declared.planned.Planned.{Planned}
+use Rattle.b2_prepare.specs.Preparing.{IsPrepared, Counts, IsWhole}
+use Rattle.b2_prepare.specs.declared.refusal.PlanStop.{PlanStop}
+use Rattle.b2_request_plan.specs.declared.planned.Planned.{Planned}
 use Rattle.b2_host.specs.Disks.{Disk}
 use Rattle.b2_update.specs.Moments.{moment}
 use Rattle.b2_top.specs.Explains.{TellsPlan}
@@ -20,8 +20,8 @@ returns-in-Ok g c = λ words asked.
     let planned = c.in-Ok.planned in
     let command = c.args.command.now in
     let words_told = subst (λ (l : List (List ℕ)). IfSome h0.disk (λ (disk : Disk). IsPrepared disk l echoes c.prepare-echoes.result.result)) c.as_slice.ensures c.prepare-echoes.ensures.told in
-    let told = subst (λ (r : Result Planned Stop). IfSome h0.disk (λ (disk : Disk). IsPrepared disk command.words echoes r)) c.in-Ok.is words_told in
-    let same = subst (λ (r : Result Planned Stop). Counts r h0 h1) c.in-Ok.is c.prepare-echoes.ensures.counts in
+    let told = subst (λ (r : Result Planned PlanStop). IfSome h0.disk (λ (disk : Disk). IsPrepared disk command.words echoes r)) c.in-Ok.is words_told in
+    let same = subst (λ (r : Result Planned PlanStop). Counts r h0 h1) c.in-Ok.is c.prepare-echoes.ensures.counts in
     let tells = subst (λ (lines : List (List ℕ)). TellsPlan lines planned.plan command.all (moment h1 o0) (moment h2 o2) c.explain_plan.result) c.as_slice-echoes.ensures c.explain_plan.ensures in
     answered_plan c.one_meaning.ensures words command asked h0 h1 h2 o0 o2 echoes c.prepare-echoes.ensures.disk c.prepare-echoes.ensures.children c.prepare-echoes.ensures.keeps
     same planned told c.explain_plan.result tells
@@ -35,9 +35,9 @@ returns g c = λ words asked.
     let echoes = c.prepare-echoes.result.echoes in
     let command = c.args.command.now in
     let words_told = subst (λ (l : List (List ℕ)). IfSome h0.disk (λ (disk : Disk). IsPrepared disk l echoes c.prepare-echoes.result.result)) c.as_slice.ensures c.prepare-echoes.ensures.told in
-    let told = subst (λ (r : Result Planned Stop). IfSome h0.disk (λ (disk : Disk). IsPrepared disk command.words echoes r)) c.in-Err.is words_told in
-    let whole = subst (λ (r : Result Planned Stop). IfErr r IsWhole) c.in-Err.is c.prepare-echoes.ensures.whole in
-    let counts = subst (λ (r : Result Planned Stop). Counts r h0 h1) c.in-Err.is c.prepare-echoes.ensures.counts in
+    let told = subst (λ (r : Result Planned PlanStop). IfSome h0.disk (λ (disk : Disk). IsPrepared disk command.words echoes r)) c.in-Err.is words_told in
+    let whole = subst (λ (r : Result Planned PlanStop). IfErr r IsWhole) c.in-Err.is c.prepare-echoes.ensures.whole in
+    let counts = subst (λ (r : Result Planned PlanStop). Counts r h0 h1) c.in-Err.is c.prepare-echoes.ensures.counts in
     let says = subst (λ (lines : List (List ℕ)). AnswersStop lines c.in-Err.stop o0 o1 c.tell_stop.result) c.as_slice-in-Err.ensures c.tell_stop.ensures in
     answered_stop c.one_meaning.ensures words command asked h0 h1 o0 o1 echoes c.prepare-echoes.ensures.disk c.prepare-echoes.ensures.children c.prepare-echoes.ensures.keeps
     c.in-Err.stop c.tell_stop.result told whole counts says

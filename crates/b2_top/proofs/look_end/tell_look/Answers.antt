@@ -1,5 +1,5 @@
 use Rattle.b2_top.specs.declared.answer.Answer.TheVariants as answers
-use Rattle.b2_planning.specs.Plans.{seen}
+use Rattle.b2_request_plan.specs.Plans.{seen}
 use Rattle.b2_top.specs.Looks.{look_report}
 use Rattle.b2_top.proofs.PiecesWrittenMakeTheWhole.{says_done, says_not}
 use Rattle.b2_top.proofs.look_end.tell_look.Goals as goal

@@ -1,6 +1,6 @@
 use Rattle.std.proofs.Common.{Err, sym, subst}
 use Rattle.std.proofs.lemmas.Result.{err_from_is_err_and}
-use Rattle.b2_planning.specs.Plans.{seen}
+use Rattle.b2_request_plan.specs.Plans.{seen}
 use Rattle.b2_top.specs.Reports.{echo_lines}
 use Rattle.b2_top.specs.Looks.{view_lines, look_report}
 use Rattle.b2_top.specs.Writing.{Writes}

@@ -1,6 +1,6 @@
 use Rattle.std.proofs.Common.{List, ℕ, Err, sym, subst}
 use Rattle.std.proofs.lemmas.Result.{err_from_is_err_and}
-use Rattle.b2_planning.specs.declared.planned.Built.{Built}
+use Rattle.b2_request_plan.specs.declared.planned.Built.{Built}
 use Rattle.b2_refusals.specs.Lines.{table_line}
 use Rattle.b2_top.specs.Looks.{table_lines}
 use Rattle.b2_top.specs.Writing.{Writes}

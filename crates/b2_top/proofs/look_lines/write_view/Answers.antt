@@ -1,8 +1,8 @@
 use Rattle.std.proofs.Common.{◌∙◌, sym, ap, subst}
 use Rattle.std.proofs.lemmas.List.Folds.{flat_map-map}
 use Rattle.b2_generate.specs.Planning.{Line}
-use Rattle.b2_planning.specs.Plans.{seen}
-use Rattle.b2_planning.specs.declared.planned.Built.{Built}
+use Rattle.b2_request_plan.specs.Plans.{seen}
+use Rattle.b2_request_plan.specs.declared.planned.Built.{Built}
 use Rattle.b2_top.specs.Looks.{row_line, table_lines, steps_lines, view_lines}
 use Rattle.b2_top.specs.Writing.{Writes}
 use Rattle.b2_top.proofs.look_lines.write_view.Goals as goal

@@ -1,6 +1,6 @@
 use Rattle.std.proofs.Common.{ℕ, List, IfSome, subst}
 use Rattle.b2_host.specs.Disks.{Disk}
-use Rattle.b2_front.specs.Preparing.{IsPrepared, LinesTold}
+use Rattle.b2_prepare.specs.Preparing.{IsPrepared, LinesTold}
 use Rattle.b2_top.proofs.LooksAnswerAsPromised.{answered}
 use Rattle.b2_top.proofs.show.show.Goals as goal
 

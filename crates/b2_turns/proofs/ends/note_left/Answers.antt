@@ -1,6 +1,6 @@
 use Rattle.std.proofs.Common.{Bool, true, false, Ok, Err, ap, subst, ◌∙◌}
 use Rattle.std.proofs.lemmas.Result.{err_from_is_err_and}
-use Rattle.b2_verdicts.specs.Calls.{IsOfStep}
+use Rattle.b2_verdicts.specs.VerdictCalls.{IsOfStep}
 use Rattle.b2_looks.specs.Looks.{LooksAtFiles}
 use Rattle.b2_looks.proofs.FilesAreLookedAt.{looks_err, looks_ok}
 use Rattle.b2_turns.proofs.StepHasLeft.{not_all_stand, looks_left, looks_failed, left_failed, left_gone, left_noted, left_stopped}

@@ -10,7 +10,7 @@ use Rattle.b2_log.specs.Good.{IsProper}
 use Rattle.b2_facts.specs.Facts.{IsAbout}
 use Rattle.b2_facts.specs.Stops.{stop_of_io}
 use Rattle.b2_verdicts.specs.Made.{AreRising, IsMadeOf, IsWithoutFile}
-use Rattle.b2_verdicts.specs.Calls.{IsOfStep, Always, Asks}
+use Rattle.b2_verdicts.specs.VerdictCalls.{IsOfStep, Always, Asks}
 use Rattle.b2_looks.proofs.FilesAreLookedAt.{looks_asked, looks_err, looks_ok, looks_then, looks_noted, looks_not_noted}
 use Rattle.b2_looks.proofs.MigrationEnds.{note_reads_none}
 use Rattle.b2_turns.specs.Recording.{RecordTold}

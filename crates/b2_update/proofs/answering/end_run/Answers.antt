@@ -2,7 +2,7 @@ use Rattle.std.proofs.Common.{◌≡◌, Err, Result, refl, sym, ap, subst, ◌�
 use Rattle.std.specs.Prelude.{MatchResult}
 use Rattle.b2_host.specs.OutsideLaws.{keeps_same}
 use Rattle.std.proofs.lemmas.Result.{err_from_is_err_and}
-use Rattle.b2_update.specs.declared.stop.Stop.{Stop}
+use Rattle.b2_update.specs.declared.stop.UpdateStop.{UpdateStop}
 use Rattle.b2_update.specs.declared.update_answer.UpdateAnswer.{UpdateAnswer}
 use Rattle.b2_update.specs.Moments.{moment}
 use Rattle.b2_update.specs.Going.{Halts}
@@ -24,7 +24,7 @@ returns-in_err-ending-clause-going g c entry going =
     let run = c.args.run.now in
     let here = moment (g.H.Files.outside c.args.host.now) (g.S.Sink.output c.args.out.now) in
     let there = moment (g.H.Files.outside c.ending_of.new.files) (g.S.Sink.output c.args.out.now) in
-    subst (λ (r : Result UpdateAnswer Stop). MatchResult r (HasCome c.args.plan.now run.looks.board.sched.jobs entry there) (Halts c.args.plan.now run.looks.board.sched.jobs run.waits entry there)) (sym is)
+    subst (λ (r : Result UpdateAnswer UpdateStop). MatchResult r (HasCome c.args.plan.now run.looks.board.sched.jobs entry there) (Halts c.args.plan.now run.looks.board.sched.jobs run.waits entry there)) (sym is)
     (ending_halts (Unit {0}) c.args.plan.now entry here there run c.in_err-ending.field-0.0 going refl c.in_err-ending.ensures.host)
 
 pub returns-in_err-ending-clause-told : goal.returns-in_err-ending-clause-told

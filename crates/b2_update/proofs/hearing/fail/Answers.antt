@@ -4,7 +4,7 @@ use Rattle.b2_host.specs.OutputLaws.{OutKeeps, out_keeps_same}
 use Rattle.b2_plan.specs.declared.step.Step.{Step}
 use Rattle.b2_plan.specs.Plans.{step_at}
 use Rattle.b2_runs.specs.Reports.{failed_line}
-use Rattle.b2_update.specs.declared.stop.Stop.TheVariants as stops
+use Rattle.b2_update.specs.declared.stop.UpdateStop.TheVariants as stops
 use Rattle.b2_update.specs.Moments.{moment}
 use Rattle.b2_update.specs.Stops.{StopCausedBy, sink_stop_of}
 use Rattle.b2_update.proofs.EndIsSettled.{leaves_clear, out_keeps_says, fail_stops, caused_by_files, caused_by_sink, halts_settling, cleared_heard}

@@ -4,7 +4,7 @@ use Rattle.b2_host.specs.OutputLaws.{out_keeps_same}
 use Rattle.b2_host.specs.OutsideLaws.{BeginsPast, keeps_then, both_visible}
 use Rattle.b2_host.specs.LogChanges.{keeps_log_changes}
 use Rattle.b2_turns.specs.Ends.{MadeTold}
-use Rattle.b2_update.specs.declared.stop.Stop.TheVariants as stops
+use Rattle.b2_update.specs.declared.stop.UpdateStop.TheVariants as stops
 use Rattle.b2_update.specs.Moments.{moment}
 use Rattle.b2_update.proofs.EndIsSettled.{leaves_log, settle_stops, failed_so, kept_by_failing, caused_by_files, noted_heard, halts_settling, ends_short, none_visible}
 use Rattle.b2_update.proofs.SettleTellsEnd.{noted_told, note_stop_told, settles_with, unseen_told}

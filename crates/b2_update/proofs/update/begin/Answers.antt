@@ -7,7 +7,7 @@ use Rattle.b2_host.specs.LogChanges.{log_changes_same}
 use Rattle.std.specs.Prelude.{List}
 use Rattle.b2_log.specs.declared.line.LogLine.{LogLine}
 use Rattle.b2_looks.specs.Looks.{AreLooks}
-use Rattle.b2_verdicts.specs.declared.way.Way.{Way}
+use Rattle.b2_verdicts.specs.declared.judging_mode.JudgingMode.{JudgingMode}
 use Rattle.b2_update.specs.declared.run.Run.{Run}
 use Rattle.b2_update.specs.Moments.{moment}
 use Rattle.b2_update.specs.Stops.{host_stop_of, StopCausedBy}
@@ -58,7 +58,7 @@ returns-clause-going g c output =
     let made : Run = record { looks = c.in_ok-looks.looks; sights = record { facts = c.new-2.result; journal = c.in_ok-journal.journal; marks = c.new-3.result; by_digest = c.args.options.by_digest }; quit = c.args.options.quit; updated = 0; waits = 0 } in
     going_begins c.args.plan.now (moment (g.F.Files.outside c.args.files.now) output) (moment (g.F.Files.outside c.open.new.files) output) made c.requires.idle c.in_ok-journal.ensures.only_log refl c.in_ok-journal.ensures.counts
     (c.new-2.ensures.about c.args.plan.now.steps c.args.plan.now.roots) (subst (λ f. AreLooks c.args.plan.now 0 f c.in_ok-looks.looks) (sym c.new-2.ensures.value) c.in_ok-looks.ensures.looks) c.in_ok-looks.ensures.follows
-    (ap (λ (w : Way). w.by_digest) (sym c.in_ok-looks.ensures.way)) refl refl
+    (ap (λ (w : JudgingMode). w.by_digest) (sym c.in_ok-looks.ensures.way)) refl refl
 
 pub returns-clause-told : goal.returns-clause-told
 returns-clause-told g c output made =

@@ -1,7 +1,7 @@
 use Rattle.std.proofs.Common.{Err, Result, sym, ap, subst, ◌∙◌}
 use Rattle.std.proofs.lemmas.Result.{err_from_is_err_and}
 use Rattle.b2_host.specs.OutsideLaws.{keeps_then}
-use Rattle.b2_update.specs.declared.stop.Stop.{Stop}
+use Rattle.b2_update.specs.declared.stop.UpdateStop.{UpdateStop}
 use Rattle.b2_update.specs.declared.update_answer.UpdateAnswer.{UpdateAnswer}
 use Rattle.b2_update.specs.Moments.{moment}
 use Rattle.b2_update.specs.Endings.{EndTells}
@@ -13,7 +13,7 @@ returns-in_err-work-clause-told g c =
     let p = err_from_is_err_and c.from_residual.result c.from_residual.ensures.1 in
     let x = moment (g.H.Files.outside c.args.host.now) (g.S.Sink.output c.args.out.now) in
     let y = moment (g.H.Files.outside c.work.new.host) (g.S.Sink.output c.work.new.out) in
-    subst (λ (r : Result UpdateAnswer Stop). EndTells c.args.plan.now g.H.Children.made x c.args.run.now y c.work.new.run r) (sym (p.1 ∙ ap Err p.2)) c.in_err-work.ensures.told
+    subst (λ (r : Result UpdateAnswer UpdateStop). EndTells c.args.plan.now g.H.Children.made x c.args.run.now y c.work.new.run r) (sym (p.1 ∙ ap Err p.2)) c.in_err-work.ensures.told
 
 pub returns-clause-told : goal.returns-clause-told
 returns-clause-told g c =

@@ -1,8 +1,8 @@
 use Rattle.std.proofs.Common.{refl, ap, subst, ◌∙◌}
 use Rattle.b2_facts.specs.Facts.{no_facts}
 use Rattle.b2_host.specs.ChildProcesses.{Family}
-use Rattle.b2_facts.specs.declared.stop.Stop.TheVariants as files
-use Rattle.b2_update.specs.declared.stop.Stop.TheVariants as stops
+use Rattle.b2_facts.specs.declared.stop.FilesStop.TheVariants as files
+use Rattle.b2_update.specs.declared.stop.UpdateStop.TheVariants as stops
 use Rattle.b2_update.specs.declared.update_answer.UpdateAnswer.TheVariants as answers
 use Rattle.b2_host.specs.declared.fault.IoFault.{IoFault}
 use Rattle.b2_update.specs.Moments.{moment}

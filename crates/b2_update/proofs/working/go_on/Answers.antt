@@ -3,7 +3,7 @@ use Rattle.std.specs.Prelude.{MatchResult}
 use Rattle.std.proofs.lemmas.Result.{err_from_is_err_and}
 use Rattle.b2_host.specs.OutsideLaws.{keeps_then}
 use Rattle.b2_host.specs.LogChanges.{keeps_log_changes}
-use Rattle.b2_update.specs.declared.stop.Stop.{Stop}
+use Rattle.b2_update.specs.declared.stop.UpdateStop.{UpdateStop}
 use Rattle.b2_update.specs.Moments.{moment}
 use Rattle.b2_update.specs.Going.{IsGoing, Halts}
 use Rattle.b2_update.specs.InRun.{Tells}
@@ -20,7 +20,7 @@ returns-in_err-look_all-clause-going g c entry going =
     let here = moment (g.H.Files.outside c.args.host.now) (g.S.Sink.output c.args.out.now) in
     let there = moment (g.H.Files.outside c.look_all.new.files) (g.S.Sink.output c.args.out.now) in
     let stop = c.in_err-look_all.field-0.0 in
-    subst (λ (r : Result (Unit {0}) Stop). MatchResult r (λ x. IsGoing plan entry there (looked run c.look_all.new.self c.look_all.new.sights)) (Halts plan run.looks.board.sched.jobs run.waits entry there)) (sym (e ∙ ap Err q))
+    subst (λ (r : Result (Unit {0}) UpdateStop). MatchResult r (λ x. IsGoing plan entry there (looked run c.look_all.new.self c.look_all.new.sights)) (Halts plan run.looks.board.sched.jobs run.waits entry there)) (sym (e ∙ ap Err q))
     (looks_halt plan entry here there run (Unit {0}) stop going refl c.in_err-look_all.ensures.only_log c.in_err-look_all.ensures.faults)
 
 pub returns-in_err-look_all-clause-told : goal.returns-in_err-look_all-clause-told
@@ -30,7 +30,7 @@ returns-in_err-look_all-clause-told g c =
     let run = c.args.run.now in
     let here = moment (g.H.Files.outside c.args.host.now) (g.S.Sink.output c.args.out.now) in
     let there = moment (g.H.Files.outside c.look_all.new.files) (g.S.Sink.output c.args.out.now) in
-    subst (λ (r : Result (Unit {0}) Stop). Tells plan g.H.Children.made here run there (looked run c.look_all.new.self c.look_all.new.sights) r) (sym (e ∙ ap Err q))
+    subst (λ (r : Result (Unit {0}) UpdateStop). Tells plan g.H.Children.made here run there (looked run c.look_all.new.self c.look_all.new.sights) r) (sym (e ∙ ap Err q))
     (looks_tell_err plan g.H.Children.made here there run c.look_all.new.self c.look_all.new.sights (record { only_log = c.in_err-look_all.ensures.only_log; out = refl }) c.in_err-look_all.field-0.0 c.in_err-look_all.ensures.told)
 
 pub start_all-requires-clause-going : goal.start_all-requires-clause-going

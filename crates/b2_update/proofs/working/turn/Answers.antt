@@ -2,7 +2,7 @@ use Rattle.std.proofs.Common.{◌≡◌, Err, Result, sym, ap, subst, ◌∙◌}
 use Rattle.std.specs.Prelude.{MatchResult}
 use Rattle.std.proofs.lemmas.Result.{err_from_is_err_and}
 use Rattle.b2_host.specs.OutsideLaws.{keeps_then}
-use Rattle.b2_update.specs.declared.stop.Stop.{Stop}
+use Rattle.b2_update.specs.declared.stop.UpdateStop.{UpdateStop}
 use Rattle.b2_update.specs.Moments.{moment}
 use Rattle.b2_update.specs.Going.{IsGoing, Halts}
 use Rattle.b2_update.specs.InRun.{Tells}
@@ -17,7 +17,7 @@ returns-in_err-hear-clause-going g c entry going =
     let plan = c.args.plan.now in
     let there = moment (g.H.Files.outside c.hear.new.host) (g.S.Sink.output c.hear.new.out) in
     let halts = c.in_err-hear.ensures.going entry going in
-    subst (λ (r : Result (Unit {0}) Stop). MatchResult r (λ x. IsGoing plan entry there c.hear.new.run) (Halts plan c.args.run.now.looks.board.sched.jobs c.hear.new.run.waits entry there)) (sym is)
+    subst (λ (r : Result (Unit {0}) UpdateStop). MatchResult r (λ x. IsGoing plan entry there c.hear.new.run) (Halts plan c.args.run.now.looks.board.sched.jobs c.hear.new.run.waits entry there)) (sym is)
     (subst (λ n. Halts plan n c.hear.new.run.waits entry there c.in_err-hear.field-0.0) c.in_err-hear.ensures.way.jobs halts)
 
 pub returns-in_err-hear-clause-told : goal.returns-in_err-hear-clause-told
@@ -26,7 +26,7 @@ returns-in_err-hear-clause-told g c =
     let is : c.from_residual.result ≡ Err c.in_err-hear.field-0.0 = p.1 ∙ ap Err p.2 in
     let x = moment (g.H.Files.outside c.args.host.now) (g.S.Sink.output c.args.out.now) in
     let y = moment (g.H.Files.outside c.hear.new.host) (g.S.Sink.output c.hear.new.out) in
-    subst (λ (r : Result (Unit {0}) Stop). Tells c.args.plan.now g.H.Children.made x c.args.run.now y c.hear.new.run r) (sym is) c.in_err-hear.ensures.told
+    subst (λ (r : Result (Unit {0}) UpdateStop). Tells c.args.plan.now g.H.Children.made x c.args.run.now y c.hear.new.run r) (sym is) c.in_err-hear.ensures.told
 
 pub go_on-requires-clause-going : goal.go_on-requires-clause-going
 go_on-requires-clause-going g c = (c.requires.going.0, c.in_ok-hear.ensures.going c.requires.going.0 c.requires.going.1)

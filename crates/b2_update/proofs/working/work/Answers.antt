@@ -2,7 +2,7 @@ use Rattle.std.proofs.Common.{◌≡◌, Ok, Err, Result, sym, ap, subst, ◌∙
 use Rattle.std.specs.Prelude.{MatchResult}
 use Rattle.std.proofs.lemmas.Result.{err_from_is_err_and}
 use Rattle.b2_host.specs.OutsideLaws.{keeps_then}
-use Rattle.b2_update.specs.declared.stop.Stop.{Stop}
+use Rattle.b2_update.specs.declared.stop.UpdateStop.{UpdateStop}
 use Rattle.b2_update.specs.Moments.{moment}
 use Rattle.b2_update.specs.Going.{IsGoing, Halts}
 use Rattle.b2_update.specs.InRun.{Tells}
@@ -38,7 +38,7 @@ returns-in_err-turn-clause-going g c entry going =
     let is : c.from_residual-in_err-turn.result ≡ Err c.in_err-turn.field-0.0 = p.1 ∙ ap Err p.2 in
     let there = moment (g.H.Files.outside c.turn.new.host) (g.S.Sink.output c.turn.new.out) in
     let old = c.loop-run.invariant in
-    subst (λ (r : Result (Unit {0}) Stop). MatchResult r (λ x. IsGoing c.args.plan.now entry there c.turn.new.run) (Halts c.args.plan.now c.args.run.now.looks.board.sched.jobs c.turn.new.run.waits entry there)) (sym is)
+    subst (λ (r : Result (Unit {0}) UpdateStop). MatchResult r (λ x. IsGoing c.args.plan.now entry there c.turn.new.run) (Halts c.args.plan.now c.args.run.now.looks.board.sched.jobs c.turn.new.run.waits entry there)) (sym is)
     (subst (λ n. Halts c.args.plan.now n c.turn.new.run.waits entry there c.in_err-turn.field-0.0) old.way.jobs (c.in_err-turn.ensures.going entry (old.going entry going)))
 
 pub returns-in_err-turn-clause-told : goal.returns-in_err-turn-clause-told
@@ -49,5 +49,5 @@ returns-in_err-turn-clause-told g c =
     let y = moment (g.H.Files.outside c.loop-run.host) (g.S.Sink.output c.loop-run.out) in
     let z = moment (g.H.Files.outside c.turn.new.host) (g.S.Sink.output c.turn.new.out) in
     let old = c.loop-run.invariant in
-    subst (λ (r : Result (Unit {0}) Stop). Tells c.args.plan.now g.H.Children.made x c.args.run.now z c.turn.new.run r) (sym is)
+    subst (λ (r : Result (Unit {0}) UpdateStop). Tells c.args.plan.now g.H.Children.made x c.args.run.now z c.turn.new.run r) (sym is)
     (tells_then {V = Unit {0}} c.args.plan.now g.H.Children.made x y z c.args.run.now c.loop-run.run c.turn.new.run (tt {0}) (Err c.in_err-turn.field-0.0) old.way c.in_err-turn.ensures.kept.files old.told c.in_err-turn.ensures.told)

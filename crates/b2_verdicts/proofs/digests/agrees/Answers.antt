@@ -3,7 +3,7 @@ use Rattle.std.specs.List.{Contains, AllByRecursion}
 use Rattle.std.proofs.lemmas.Result.{err_from_is_err_and}
 use Rattle.b2_log.specs.Good.{IsDigest}
 use Rattle.b2_verdicts.specs.Sights.{AreNumbers}
-use Rattle.b2_verdicts.specs.Calls.{IsOfStep}
+use Rattle.b2_verdicts.specs.VerdictCalls.{IsOfStep}
 use Rattle.b2_verdicts.specs.Digested.{TellEach, TellsBoth}
 use Rattle.b2_verdicts.proofs.WhatIsKnownStays.{numbers_stay}
 use Rattle.b2_verdicts.proofs.MoreIsKnown.{knows_grows}

@@ -1,7 +1,7 @@
 use Rattle.std.proofs.Common.{None, Ok, Err, ap, ◌∙◌}
 use Rattle.std.proofs.lemmas.Result.{err_from_is_err_and}
 use Rattle.b2_facts.specs.Growth.{OfOne}
-use Rattle.b2_verdicts.specs.Calls.{Always}
+use Rattle.b2_verdicts.specs.VerdictCalls.{Always}
 use Rattle.b2_verdicts.specs.Digested.{TellsOne}
 use Rattle.b2_verdicts.proofs.WhatIsKnownStays.{number_stays}
 use Rattle.b2_verdicts.proofs.MoreIsKnown.{knows_grows}

@@ -1,7 +1,7 @@
 use Rattle.std.proofs.Common.{◌≡◌, ℕ, ◌<◌, List, Some, Ok, get_or, slice_get}
 use Rattle.std.specs.List.{Contains}
 use Rattle.b2_verdicts.specs.Sights.{digest_at}
-use Rattle.b2_verdicts.specs.Calls.{Asks}
+use Rattle.b2_verdicts.specs.VerdictCalls.{Asks}
 use Rattle.b2_verdicts.specs.Digested.{TellEach}
 use Rattle.b2_verdicts.proofs.digests.have_digests.Given as goal
 

@@ -2,7 +2,7 @@ use Rattle.std.proofs.Common.{inl, inr, Bool, false, Some, Ok, Err, refl, ap, su
 use Rattle.std.proofs.lemmas.Result.{err_from_is_err_and}
 use Rattle.b2_log.specs.Good.{HasDigests}
 use Rattle.b2_verdicts.specs.Points.{IsNotSaved.no_digests, IsNotSaved.out_differs, IsNotSaved.in_differs}
-use Rattle.b2_verdicts.specs.Calls.{IsOfStep, LastTells}
+use Rattle.b2_verdicts.specs.VerdictCalls.{IsOfStep, LastTells}
 use Rattle.b2_verdicts.specs.Digested.{TellsBoth}
 use Rattle.b2_verdicts.proofs.MoreIsKnown.{knows_same, knows_grows}
 use Rattle.b2_verdicts.proofs.AskingGoesOn.{asks_quiet, asks_weaker, asks_exit}

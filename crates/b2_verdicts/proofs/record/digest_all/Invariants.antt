@@ -1,6 +1,6 @@
 use Rattle.std.proofs.Common.{◌≡◌, ℕ, ◌<◌, Ok, get_or}
 use Rattle.std.specs.List.{Contains}
-use Rattle.b2_verdicts.specs.Calls.{Always, Asks}
+use Rattle.b2_verdicts.specs.VerdictCalls.{Always, Asks}
 use Rattle.b2_verdicts.specs.Digested.{IsGoneIfUnknown}
 use Rattle.b2_verdicts.proofs.record.digest_all.Given as goal
 

@@ -4,7 +4,7 @@ use Rattle.std.proofs.lemmas.List.{length-append}
 use Rattle.std.proofs.lemmas.Result.{err_from_is_err_and}
 use Rattle.b2_facts.specs.Growth.{OfOne}
 use Rattle.b2_verdicts.specs.Sights.{digest_in}
-use Rattle.b2_verdicts.specs.Calls.{Always}
+use Rattle.b2_verdicts.specs.VerdictCalls.{Always}
 use Rattle.b2_verdicts.proofs.WhatIsKnownStays.{number_stays}
 use Rattle.b2_verdicts.proofs.MoreIsKnown.{knows_same, knows_grows}
 use Rattle.b2_verdicts.proofs.ListsAtPlaces.{index_among}

@@ -1,7 +1,7 @@
 use Rattle.std.proofs.Common.{◌≡◌, ℕ, ◌<◌, List, Some, Ok, length, get_or, slice_get}
 use Rattle.std.specs.List.{Contains}
 use Rattle.b2_verdicts.specs.Sights.{digest_at}
-use Rattle.b2_verdicts.specs.Calls.{Always, Asks}
+use Rattle.b2_verdicts.specs.VerdictCalls.{Always, Asks}
 use Rattle.b2_verdicts.proofs.record.digested.Given as goal
 
 -- the digests of the files so far

@@ -5,7 +5,7 @@ use Rattle.std.proofs.lemmas.Result.{err_from_is_err_and}
 use Rattle.b2_log.specs.declared.line.Digests.{Digests}
 use Rattle.b2_verdicts.specs.Sights.{AreNumbers}
 use Rattle.b2_verdicts.specs.Points.{HaveDigests}
-use Rattle.b2_verdicts.specs.Calls.{IsOfStep, Always}
+use Rattle.b2_verdicts.specs.VerdictCalls.{IsOfStep, Always}
 use Rattle.b2_verdicts.proofs.WhatIsKnownStays.{numbers_stay}
 use Rattle.b2_verdicts.proofs.MoreIsKnown.{knows_grows}
 use Rattle.b2_verdicts.proofs.AskingGoesOn.{asks_ok, asks_then, asks_outs, asks_ins, asks_exit}

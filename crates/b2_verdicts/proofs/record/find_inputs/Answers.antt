@@ -3,7 +3,7 @@ use Rattle.std.proofs.lemmas.Result.{err_from_is_err_and}
 use Rattle.std.specs.List.{Contains}
 use Rattle.b2_host.specs.Outside.{Outside}
 use Rattle.b2_verdicts.specs.Sights.{AreNumbers, AllAsked}
-use Rattle.b2_verdicts.specs.Calls.{IsOfStep, Always}
+use Rattle.b2_verdicts.specs.VerdictCalls.{IsOfStep, Always}
 use Rattle.b2_verdicts.proofs.WhatIsKnownStays.{numbers_stay}
 use Rattle.b2_verdicts.proofs.MoreIsKnown.{knows_grows, knows_ins}
 use Rattle.b2_verdicts.proofs.AskingGoesOn.{asks_quiet, asks_behind, asks_failed, asks_ins}

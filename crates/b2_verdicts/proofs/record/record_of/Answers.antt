@@ -7,10 +7,10 @@ use Rattle.b2_host.specs.Outside.{Outside}
 use Rattle.b2_host.specs.ReadsAdded.{reads_fails}
 use Rattle.b2_log.specs.declared.line.Record.{Record}
 use Rattle.b2_log.specs.declared.line.Digests.{Digests}
-use Rattle.b2_facts.specs.declared.stop.Stop.TheVariants as stops
+use Rattle.b2_facts.specs.declared.stop.FilesStop.TheVariants as stops
 use Rattle.b2_facts.proofs.FactsGrow.{told_map}
 use Rattle.b2_verdicts.specs.Sights.{AreNumbers, AllAsked}
-use Rattle.b2_verdicts.specs.Calls.{IsOfStep, Always}
+use Rattle.b2_verdicts.specs.VerdictCalls.{IsOfStep, Always}
 use Rattle.b2_verdicts.specs.Made.{HasDigestsBy, IsMadeOf}
 use Rattle.b2_verdicts.proofs.WhatIsKnownStays.{numbers_stay, all_asked_more}
 use Rattle.b2_verdicts.proofs.MoreIsKnown.{knows_grows, knows_outs, knows_ins, knows_both}

@@ -1,6 +1,6 @@
 use Rattle.b2_facts.specs.Growth.{OfOne}
 use Rattle.b2_facts.proofs.ListsAtPlaces.{get_some}
-use Rattle.b2_verdicts.specs.Calls.{Always}
+use Rattle.b2_verdicts.specs.VerdictCalls.{Always}
 use Rattle.b2_verdicts.proofs.MoreIsKnown.{knows_by}
 use Rattle.b2_verdicts.proofs.OneFileChanges.{asked_now, includes_seen}
 use Rattle.b2_verdicts.proofs.stamps.ask.Goals as goal

@@ -2,7 +2,7 @@ use Rattle.std.proofs.Common.{ap, ◌∙◌, get_or, below_more}
 use Rattle.std.specs.List.{Contains}
 use Rattle.b2_host.specs.Outside.{Outside}
 use Rattle.b2_facts.specs.Growth.{OfOne}
-use Rattle.b2_verdicts.specs.Calls.{Always}
+use Rattle.b2_verdicts.specs.VerdictCalls.{Always}
 use Rattle.b2_verdicts.proofs.WhatIsKnownStays.{numbers_stay, asked_more}
 use Rattle.b2_verdicts.proofs.MoreIsKnown.{knows_grows, knows_one}
 use Rattle.b2_verdicts.proofs.ListsAtPlaces.{index_among}

@@ -1,7 +1,7 @@
 use Rattle.std.proofs.Common.{◌≡◌, ℕ, ◌<◌, get_or}
 use Rattle.std.specs.List.{Contains}
 use Rattle.b2_verdicts.specs.Sights.{AreNumbers, IsAsked}
-use Rattle.b2_verdicts.specs.Calls.{KnowsMore, Always}
+use Rattle.b2_verdicts.specs.VerdictCalls.{KnowsMore, Always}
 use Rattle.b2_verdicts.proofs.stamps.ask_all.Given as goal
 
 -- the files so far were asked for

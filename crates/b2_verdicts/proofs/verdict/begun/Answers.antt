@@ -1,6 +1,6 @@
 use Rattle.std.proofs.Common.{inl}
 use Rattle.std.specs.List.{Contains}
-use Rattle.b2_verdicts.specs.Calls.{IsOfStep, Always}
+use Rattle.b2_verdicts.specs.VerdictCalls.{IsOfStep, Always}
 use Rattle.b2_verdicts.proofs.MoreIsKnown.{knows_same, knows_weaker}
 use Rattle.b2_verdicts.proofs.PointsFollow.{commanded_begun}
 use Rattle.b2_verdicts.proofs.verdict.begun.Goals as goal

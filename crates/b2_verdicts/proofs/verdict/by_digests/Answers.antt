@@ -6,7 +6,7 @@ use Rattle.b2_host.specs.Outside.{Outside}
 use Rattle.b2_verdicts.specs.declared.point.Point.{Point}
 use Rattle.b2_verdicts.specs.declared.point.Point.TheVariants as points
 use Rattle.b2_verdicts.specs.Sights.{AreNumbers, AllAsked}
-use Rattle.b2_verdicts.specs.Calls.{IsOfStep, LastTells, Always}
+use Rattle.b2_verdicts.specs.VerdictCalls.{IsOfStep, LastTells, Always}
 use Rattle.b2_verdicts.specs.Points.{IsDisagreement}
 use Rattle.b2_verdicts.proofs.WhatIsKnownStays.{numbers_stay, all_asked_more, all_stand_more, stands_asked}
 use Rattle.b2_verdicts.proofs.MoreIsKnown.{knows_same, knows_grows, knows_ins}

@@ -1,5 +1,5 @@
 use Rattle.std.specs.List.{Contains}
-use Rattle.b2_verdicts.specs.Calls.{Always}
+use Rattle.b2_verdicts.specs.VerdictCalls.{Always}
 use Rattle.b2_verdicts.proofs.WhatIsKnownStays.{numbers_stay}
 use Rattle.b2_verdicts.proofs.MoreIsKnown.{knows_grows}
 use Rattle.b2_verdicts.proofs.verdict.by_members.Goals as goal

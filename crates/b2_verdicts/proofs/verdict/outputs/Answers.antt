@@ -1,7 +1,7 @@
 use Rattle.std.proofs.Common.{sym, subst}
 use Rattle.std.specs.List.{Contains}
 use Rattle.b2_verdicts.specs.Sights.{AreNumbers, AllStand}
-use Rattle.b2_verdicts.specs.Calls.{Always}
+use Rattle.b2_verdicts.specs.VerdictCalls.{Always}
 use Rattle.b2_verdicts.proofs.WhatIsKnownStays.{numbers_stay}
 use Rattle.b2_verdicts.proofs.MoreIsKnown.{knows_grows}
 use Rattle.b2_verdicts.proofs.verdict.outputs.Goals as goal

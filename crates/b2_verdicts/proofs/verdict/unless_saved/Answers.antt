@@ -5,7 +5,7 @@ use Rattle.b2_log.specs.declared.line.Record.{Record}
 use Rattle.b2_log.specs.declared.line.LogLine.TheVariants as lines
 use Rattle.b2_log.specs.Good.{IsProper}
 use Rattle.b2_verdicts.specs.Points.{IsSavedBy, IsNotSavedBy}
-use Rattle.b2_verdicts.specs.Calls.{IsOfStep, LastTells, Asks}
+use Rattle.b2_verdicts.specs.VerdictCalls.{IsOfStep, LastTells, Asks}
 use Rattle.b2_verdicts.proofs.MoreIsKnown.{knows_same}
 use Rattle.b2_verdicts.proofs.AskingGoesOn.{asks_ok, asks_quiet, asks_exit}
 use Rattle.b2_verdicts.proofs.verdict.unless_saved.Goals as goal

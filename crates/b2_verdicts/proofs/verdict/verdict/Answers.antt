@@ -6,7 +6,7 @@ use Rattle.b2_host.specs.Outside.{Outside}
 use Rattle.b2_host.specs.ReadsAdded.{reads_fails}
 use Rattle.b2_verdicts.specs.declared.point.Point.{Point}
 use Rattle.b2_verdicts.specs.Points.{IsOrdinary, HasOutputs, IsDisagreement}
-use Rattle.b2_verdicts.specs.Calls.{IsOfStep, LastTells, LastTellsUnless, Always}
+use Rattle.b2_verdicts.specs.VerdictCalls.{IsOfStep, LastTells, LastTellsUnless, Always}
 use Rattle.b2_verdicts.specs.Chains.{IsBegun}
 use Rattle.std.specs.Prelude.{IfOk}
 use Rattle.b2_verdicts.proofs.WhatIsKnownStays.{numbers_stay}

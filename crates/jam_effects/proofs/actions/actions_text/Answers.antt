@@ -3,7 +3,7 @@ use Rattle.std.proofs.lemmas.Result.{err_from_is_err_and}
 use Rattle.std.specs.Option.{option_copied}
 use Rattle.jam_scope.specs.Lines.{actions_place}
 use Rattle.jam_effects.specs.Spots.{spot_of}
-use Rattle.jam_eval.specs.StepJobs.{job_of}
+use Rattle.jam_meaning.specs.StepJobs.{job_of}
 use Rattle.jam_effects.specs.Rolling.{IsStepText}
 use Rattle.jam_effects.proofs.ActionsExpandInTheirModule.{none_found, none_there, place_none, place_some, texted_here, untexted_here}
 use Rattle.jam_effects.proofs.actions.actions_text.Goals as goal

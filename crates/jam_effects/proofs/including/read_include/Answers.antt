@@ -1,7 +1,7 @@
 use Rattle.std.proofs.Common.{true, false, Ok, Err, refl, sym, ap, ◌∙◌, subst}
 use Rattle.std.proofs.lemmas.Result.{err_from_is_err_and}
 use Rattle.b2_base.specs.Segments.{path_from}
-use Rattle.jam_eval.specs.Includes.{is_in_roots}
+use Rattle.jam_meaning.specs.Includes.{is_in_roots}
 use Rattle.jam_values.specs.FileReadings.{reading_of}
 use Rattle.jam_effects.specs.Including.{read_of, FileTold}
 use Rattle.jam_effects.specs.Spots.{spot_of}

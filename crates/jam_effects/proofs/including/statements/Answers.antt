@@ -1,6 +1,6 @@
 use Rattle.std.proofs.Common.{ap}
-use Rattle.jam_eval.specs.Faults.{include, lex, syntax_at, too_big}
-use Rattle.jam_eval.specs.Includes.{in_file}
+use Rattle.jam_meaning.specs.Faults.{include, lex, syntax_at, too_big}
+use Rattle.jam_meaning.specs.Includes.{in_file}
 use Rattle.jam_values.specs.FileReadings.{reading_of}
 use Rattle.jam_effects.specs.Including.{read_of}
 use Rattle.jam_effects.specs.Spots.{spot_of}

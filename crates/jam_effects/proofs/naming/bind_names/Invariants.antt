@@ -1,6 +1,6 @@
 use Rattle.std.proofs.Common.{◌≡◌, ◌≢◌, [], drop}
 use Rattle.jam_scope.specs.Changes.{rescoped}
-use Rattle.jam_eval.specs.Forms.{bind_names}
+use Rattle.jam_meaning.specs.Forms.{bind_names}
 use Rattle.jam_effects.specs.Naming.{SameFrames}
 use Rattle.jam_effects.proofs.naming.bind_names.Given as goal
 

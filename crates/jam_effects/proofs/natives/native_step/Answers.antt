@@ -1,5 +1,5 @@
 use Rattle.std.proofs.Common.{Err, subst}
-use Rattle.jam_eval.specs.NativeCalls.{CallsAsMeant}
+use Rattle.jam_meaning.specs.NativeCalls.{CallsAsMeant}
 use Rattle.jam_effects.proofs.NativeAnswersDoAsDefined.{native_ok, native_fails}
 use Rattle.jam_effects.proofs.natives.native_step.Goals as goal
 

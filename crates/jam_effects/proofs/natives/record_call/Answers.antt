@@ -1,6 +1,6 @@
 use Rattle.std.proofs.Common.{◌≡◌, Some, Err, ap, subst}
 use Rattle.jam_scope.specs.Lines.{actions_place}
-use Rattle.jam_eval.specs.NativeCalls.{ActsAsMeant}
+use Rattle.jam_meaning.specs.NativeCalls.{ActsAsMeant}
 use Rattle.jam_effects.proofs.RecordingDoesAsDefined.{some_key, record_fails}
 use Rattle.jam_effects.proofs.natives.record_call.Goals as goal
 

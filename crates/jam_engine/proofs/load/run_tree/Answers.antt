@@ -1,7 +1,7 @@
 use Rattle.std.proofs.Common.{sym, ap, subst, ◌∙◌}
 use Rattle.jam_grammar.specs.Trees.{whole_tree}
-use Rattle.jam_eval.specs.Laws.{bounds}
-use Rattle.jam_eval.specs.Settings.{is_file}
+use Rattle.jam_meaning.specs.Laws.{bounds}
+use Rattle.jam_meaning.specs.Settings.{is_file}
 use Rattle.jam_engine.specs.Loading.{TellsReading}
 use Rattle.jam_engine.proofs.FilesLoad.{tree_told, tree_counts, no_frames, leaves_same}
 use Rattle.jam_engine.proofs.load.run_tree.Goals as goal

@@ -1,5 +1,5 @@
 use Rattle.std.proofs.Common.{◌≡◌, [], fold, take}
-use Rattle.jam_natives.specs.Seen.{HasSeen}
+use Rattle.jam_natives.specs.SeenTexts.{HasSeen}
 use Rattle.jam_natives.specs.Texts.{add_new}
 use Rattle.jam_engine.proofs.steps.once.Given as goal
 

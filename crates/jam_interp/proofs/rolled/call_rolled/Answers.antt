@@ -1,11 +1,11 @@
 use Rattle.std.proofs.Common.{Ok, Err, refl, sym, ap, ◌∙◌, subst}
 use Rattle.std.proofs.lemmas.Result.{err_from_is_err_and}
-use Rattle.jam_eval.specs.Faults.{Spot}
+use Rattle.jam_meaning.specs.Faults.{Spot}
 use Rattle.jam_effects.specs.Machines.{machine}
 use Rattle.jam_effects.specs.Does.{Tells}
 use Rattle.jam_effects.specs.Views.{value}
-use Rattle.jam_interp.specs.Parts.{call_rolled_at}
-use Rattle.jam_interp.specs.Parts.{call_value}
+use Rattle.jam_interp.specs.FunctionParts.{call_rolled_at}
+use Rattle.jam_interp.specs.FunctionParts.{call_value}
 use Rattle.jam_interp.proofs.StepTextsAreMadeAside.{newest_again}
 use Rattle.jam_interp.proofs.MarkedWorldsComeBack.{call_rolls, same_fault}
 use Rattle.jam_interp.proofs.rolled.call_rolled.Goals as goal

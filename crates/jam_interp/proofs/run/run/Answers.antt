@@ -3,7 +3,7 @@ use Rattle.jam_grammar.specs.Trees.{whole_tree, stmts_tree}
 use Rattle.jam_effects.specs.Machines.{machine}
 use Rattle.jam_effects.specs.Does.{Does}
 use Rattle.jam_effects.specs.Views.{flow_of}
-use Rattle.jam_interp.specs.Parts.{stmts_at}
+use Rattle.jam_interp.specs.FunctionParts.{stmts_at}
 use Rattle.jam_effects.proofs.WhatEachKeepsAllKeep.{may_leave}
 use Rattle.jam_interp.proofs.CodeDoesWhatTreesDo.{block_holds}
 use Rattle.jam_effects.proofs.FramesCloseEvenAfterFaults.{all_frames}

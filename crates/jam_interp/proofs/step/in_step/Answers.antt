@@ -1,8 +1,8 @@
 use Rattle.std.proofs.Common.{ap, ◌∙◌}
 use Rattle.std.proofs.lemmas.Result.{err_from_is_err_and}
 use Rattle.jam_effects.specs.Machines.{machine}
-use Rattle.jam_interp.specs.Parts.{in_step_at}
-use Rattle.jam_eval.specs.StepJobs.{job_of, step_answer}
+use Rattle.jam_interp.specs.FunctionParts.{in_step_at}
+use Rattle.jam_meaning.specs.StepJobs.{job_of, step_answer}
 use Rattle.jam_interp.proofs.StepTextsAreMadeAside.{aside_ends, aside_fails, aside_texts, step_opened}
 use Rattle.jam_interp.proofs.step.in_step.Goals as goal
 

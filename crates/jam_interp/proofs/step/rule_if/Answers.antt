@@ -1,7 +1,7 @@
 use Rattle.std.proofs.Common.{◌≡◌, Some, ◌∙◌, subst}
 use Rattle.jam_scope.specs.Lines.{rule_place}
 use Rattle.jam_effects.specs.Machines.{machine}
-use Rattle.jam_eval.specs.StepJobs.{job_of}
+use Rattle.jam_meaning.specs.StepJobs.{job_of}
 use Rattle.jam_effects.proofs.RecordingDoesAsDefined.{some_key}
 use Rattle.jam_interp.proofs.StepsCallTheirRule.{rule_called}
 use Rattle.jam_interp.proofs.step.rule_if.Goals as goal

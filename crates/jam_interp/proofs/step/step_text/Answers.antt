@@ -1,5 +1,5 @@
 use Rattle.jam_effects.specs.Machines.{machine}
-use Rattle.jam_eval.specs.StepJobs.{job_of}
+use Rattle.jam_meaning.specs.StepJobs.{job_of}
 use Rattle.jam_interp.proofs.StepTextsAreMadeAside.{step_rolls, back_again, newest_again}
 use Rattle.jam_interp.proofs.step.step_text.Goals as goal
 

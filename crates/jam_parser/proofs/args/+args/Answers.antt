@@ -1,6 +1,6 @@
 use Rattle.std.proofs.Common.{length-append, suc, ◌≡◌, ◌∷◌, [], ◌++◌, ◌+◌, ◌-◌, length, sym, ap, ◌∙◌, arith, refl}
 use Rattle.std.proofs.lemmas.Result.{MatchResult-weaker, err_from_is_err_and}
-use Rattle.jam_grammar.specs.declared.mark.Mark.TheVariants as marks
+use Rattle.jam_grammar.specs.declared.mark.TokenMark.TheVariants as marks
 use Rattle.jam_grammar.specs.Spelling as spelling
 use Rattle.jam_grammar.specs.Spelling.{spell_inner, arg_syms, inner_syms}
 use Rattle.jam_grammar.specs.Grammar.{OneArg, Args, More, OneInner, InnerTail, Shut, Key}

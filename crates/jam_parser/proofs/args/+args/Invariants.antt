@@ -1,7 +1,7 @@
 use Rattle.std.proofs.Common.{◌∷◌, [], length, ◌+◌, ◌-◌, ◌*◌}
 use Rattle.jam_grammar.specs.Spelling.{args_syms, lists_syms}
 use Rattle.jam_grammar.specs.Grammar.{Args, More}
-use Rattle.jam_parser.specs.Parts.{ComesTo}
+use Rattle.jam_parser.specs.PartReadings.{ComesTo}
 use Rattle.jam_parser.proofs.args.+args.Given as goal
 
 abbrev pub decreases-arg : goal.decreases-arg

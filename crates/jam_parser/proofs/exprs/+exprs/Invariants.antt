@@ -1,8 +1,8 @@
 use Rattle.std.proofs.Common.{◌∷◌, [], ◌++◌, length, ◌≤◌, ◌+◌, ◌-◌, ◌*◌}
 use Rattle.jam_grammar.specs.Spelling.{Key, WithinOr, WithinAnd, expr_syms}
 use Rattle.jam_grammar.specs.Grammar.{Both, OrTail, Single, AndTail}
-use Rattle.jam_grammar.specs.declared.mark.Mark.TheVariants as marks
-use Rattle.jam_parser.specs.Parts.{Continues}
+use Rattle.jam_grammar.specs.declared.mark.TokenMark.TheVariants as marks
+use Rattle.jam_parser.specs.PartReadings.{Continues}
 use Rattle.jam_parser.proofs.MembersMakeTheCondition.{signed}
 use Rattle.jam_parser.proofs.exprs.+exprs.Given as goal
 

@@ -1,7 +1,7 @@
 use Rattle.std.proofs.Common.{◌∷◌, [], sym, refl}
 use Rattle.std.proofs.lemmas.List.{append-nil}
 use Rattle.std.proofs.lemmas.Result.{MatchResult-weaker}
-use Rattle.jam_grammar.specs.declared.mark.Mark.TheVariants as marks
+use Rattle.jam_grammar.specs.declared.mark.TokenMark.TheVariants as marks
 use Rattle.jam_grammar.specs.Spelling.{WithinAnd, expr_syms, arg_syms}
 use Rattle.jam_grammar.specs.Grammar.{Compared, OneArg, Args}
 use Rattle.jam_parser.proofs.ReadingsCompose.{then_fault, takes_past, continued}

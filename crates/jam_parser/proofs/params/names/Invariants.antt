@@ -1,7 +1,7 @@
 use Rattle.std.proofs.Common.{◌≡◌, ◌∷◌, [], false, length, flat_map}
 use Rattle.jam_grammar.specs.Spelling.{param_syms, takes_all}
 use Rattle.jam_grammar.specs.Grammar.{Names}
-use Rattle.jam_parser.specs.Parts.{ComesTo}
+use Rattle.jam_parser.specs.PartReadings.{ComesTo}
 use Rattle.jam_parser.specs.Params.{after_name}
 use Rattle.jam_parser.proofs.params.names.Given as goal
 

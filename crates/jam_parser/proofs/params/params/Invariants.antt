@@ -1,6 +1,6 @@
 use Rattle.std.proofs.Common.{◌∷◌, [], length}
 use Rattle.jam_grammar.specs.Grammar.{Params}
-use Rattle.jam_parser.specs.Parts.{ComesTo}
+use Rattle.jam_parser.specs.PartReadings.{ComesTo}
 use Rattle.jam_parser.specs.Params.{after_list, params_read}
 use Rattle.jam_grammar.specs.Trees.{lists_of}
 use Rattle.jam_parser.proofs.params.params.Given as goal

@@ -1,6 +1,6 @@
 use Rattle.std.proofs.Common.{rules, sym, ◌∙◌}
 use denote.Enum.Bare.{same_true}
-use Rattle.jam_grammar.specs.contracts.mark.Mark.{the_type}
+use Rattle.jam_grammar.specs.contracts.mark.TokenMark.{the_type}
 use Rattle.jam_parser.proofs.reading.first_of.Goals as goal
 
 pub returns-in-Some : goal.returns-in-Some

@@ -1,5 +1,5 @@
 use Rattle.std.proofs.Common.{◌∷◌, [], ◌++◌, append_assoc, sym, arith}
-use Rattle.jam_grammar.specs.declared.mark.Mark.TheVariants as marks
+use Rattle.jam_grammar.specs.declared.mark.TokenMark.TheVariants as marks
 use Rattle.jam_grammar.specs.Spelling as spelling
 use Rattle.jam_grammar.specs.Spelling.{arg_syms, args_syms, set_syms, sign_mark}
 use Rattle.jam_grammar.specs.Grammar.{Args, Assigned, Key}

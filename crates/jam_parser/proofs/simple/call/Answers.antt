@@ -1,5 +1,5 @@
 use Rattle.std.proofs.Common.{◌∷◌, [], arith, refl}
-use Rattle.jam_grammar.specs.declared.mark.Mark.TheVariants as marks
+use Rattle.jam_grammar.specs.declared.mark.TokenMark.TheVariants as marks
 use Rattle.jam_grammar.specs.Grammar.{Args, More, Key}
 use Rattle.jam_parser.proofs.ReadingsCompose.{in_order}
 use Rattle.jam_parser.proofs.simple.call.Goals as goal

@@ -1,8 +1,8 @@
 use Rattle.std.proofs.Common.{◌≡◌, ℕ, ◌+◌, List, ◌∷◌, [], false, Some, None, nat_le, if◌then◌else◌, refl, ap, arith}
 use Rattle.std.proofs.lemmas.Result.{MatchResult-weaker}
 use Rattle.b2_base.specs.declared.token.Token.{Token}
-use Rattle.jam_grammar.specs.declared.mark.Mark.{Mark}
-use Rattle.jam_grammar.specs.declared.mark.Mark.TheVariants as marks
+use Rattle.jam_grammar.specs.declared.mark.TokenMark.{TokenMark}
+use Rattle.jam_grammar.specs.declared.mark.TokenMark.TheVariants as marks
 use Rattle.jam_grammar.specs.declared.tree.Sign.{Sign}
 use Rattle.jam_grammar.specs.declared.tree.Sign.TheVariants as signs
 use Rattle.jam_grammar.specs.Marks.{mark_of_token, same_mark}
@@ -10,7 +10,7 @@ use Rattle.jam_grammar.specs.Grammar.{Part, Tail, Assigned, Args, More, OneInner
 use Rattle.jam_grammar.specs.Machine.{Take, move, feed, go_on, run}
 use Rattle.jam_grammar.specs.Gives.{Leads}
 use Rattle.jam_grammar.specs.Spelling.{arg_syms, form_syms, sign_mark}
-use Rattle.jam_parser.specs.Parts.{ComesTo}
+use Rattle.jam_parser.specs.PartReadings.{ComesTo}
 use Rattle.jam_parser.specs.Starts.{starts_with, starts_sign, is_sign}
 use Rattle.jam_parser.proofs.ReadingsCompose.{then_all, then_fault, takes_past, turned, continued}
 use Rattle.jam_parser.proofs.simple.tail.Goals as goal
@@ -31,7 +31,7 @@ lists = Args ∷ More 8 ∷ Key marks.Semicolon ∷ []
 lists_come : (left : List Token) (d : ℕ) → starts_with marks.On left ≡ false → starts_sign left ≡ false → ComesTo (Tail ∷ []) lists left d [] left
 lists_come left d no_on no_sign = turned (Tail ∷ []) lists left d (omega arith) (come left no_on no_sign)
   where
-    same : (k : List Part) (m : Mark) → same_mark marks.On m ≡ false → is_sign m ≡ false → feed (Tail ∷ k) m ≡ feed (Args ∷ More 8 ∷ Key marks.Semicolon ∷ k) m
+    same : (k : List Part) (m : TokenMark) → same_mark marks.On m ≡ false → is_sign m ≡ false → feed (Tail ∷ k) m ≡ feed (Args ∷ More 8 ∷ Key marks.Semicolon ∷ k) m
     same k marks.On no_on no_sign = cc
     same k marks.Equals no_on no_sign = cc
     same k marks.PlusEquals no_on no_sign = cc

@@ -1,7 +1,7 @@
 use Rattle.std.proofs.Common.{◌∷◌, [], length, ◌+◌, ◌-◌, ◌*◌}
 use Rattle.jam_grammar.specs.Spelling.{stmts_syms, cases_syms}
 use Rattle.jam_grammar.specs.Grammar.{Stmts, Cases}
-use Rattle.jam_parser.specs.Parts.{ComesTo}
+use Rattle.jam_parser.specs.PartReadings.{ComesTo}
 use Rattle.jam_parser.proofs.stmts.+stmts.Given as goal
 
 abbrev pub decreases-block : goal.decreases-block

@@ -1,4 +1,4 @@
-use Rattle.jam_eval.proofs.KeptByEval.{run_keeps, run_call_keeps}
+use Rattle.jam_meaning.proofs.KeptByEval.{run_keeps, run_call_keeps}
 use Rattle.jam_source_laws.specs.Sources.{RootsStay}
 use Rattle.jam_source_laws.proofs.RootsStay.{roots_kept}
 use Rattle.jam_source_laws.proofs.laws.roots_stay.Goals as goal

@@ -1,5 +1,5 @@
 use Rattle.std.proofs.Common.{◌≡◌}
-use Rattle.jam_eval.specs.Params.{numbered}
+use Rattle.jam_meaning.specs.Params.{numbered}
 use Rattle.jam_values.specs.Bindings.{bindings_of}
 use Rattle.jam_values.proofs.bindings.numbered.Given as goal
 

@@ -2,7 +2,7 @@ use Rattle.std.proofs.Common.{◌≡◌, Bool, drop}
 use Rattle.jam_grammar.specs.Trees.{cases_tree}
 use Rattle.jam_journal.specs.Tables.{Text}
 use Rattle.jam_values.specs.Choosing.{chosen}
-use Rattle.jam_eval.specs.Settings.{IsMatching}
+use Rattle.jam_meaning.specs.Settings.{IsMatching}
 use Rattle.jam_values.proofs.cases.chosen.Given as goal
 
 abbrev pub invariant-loop-case : goal.invariant-loop-case

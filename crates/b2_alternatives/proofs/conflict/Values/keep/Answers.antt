@@ -1,6 +1,6 @@
 use Rattle.std.proofs.Common.{◌∙◌, List, ℕ, not, ap, ap₂}
 use Rattle.std.specs.FinMap as map
-use Rattle.b2_texts.proofs.EarlierPairsTellClashes.{not_there, first_put}
+use Rattle.b2_property_texts.proofs.EarlierPairsTellClashes.{not_there, first_put}
 use Rattle.b2_alternatives.proofs.conflict.Values.keep.Goals as goal
 
 pub returns-in_ok-_before : goal.returns-in_ok-_before

@@ -1,6 +1,6 @@
 use Rattle.std.proofs.Common.{List}
 use Rattle.b2_props.specs.Sets.{Pair}
-use Rattle.b2_alternatives.specs.Standing.{AreValues}
+use Rattle.b2_alternatives.specs.DependencyWork.{AreValues}
 use Rattle.b2_alternatives.proofs.ConflictsShowPairByPair.{IsMet}
 use Rattle.b2_alternatives.proofs.conflict.Values.meet.Given as goal
 

@@ -2,10 +2,10 @@ use Rattle.std.proofs.Common.{◌≡◌, ◌∙◌, ◌++◌, List, None, length
 use Rattle.std.proofs.lemmas.Bool.Decides.{nat_tests}
 use Rattle.std.proofs.lemmas.Grind.{common_steps}
 use Rattle.b2_props.specs.Sets.{Pair}
-use Rattle.b2_metatargets.specs.declared.whole.Declared.{Declared}
+use Rattle.b2_declared.specs.declared.whole.Declared.{Declared}
 use Rattle.b2_references.specs.Names.{features}
 use Rattle.b2_alternatives.specs.Needs.{conflict_after, after}
-use Rattle.b2_alternatives.specs.Standing.{AreValues, StandAt}
+use Rattle.b2_alternatives.specs.DependencyWork.{AreValues, StandAt}
 use Rattle.b2_alternatives.specs.Conflicting.{KeptIfNone}
 use Rattle.b2_alternatives.proofs.StandFollowsEachTarget.{none_of, nothing_left, stand_still, stand_after}
 use Rattle.b2_alternatives.proofs.dependencies.Dependencies.add.Goals as goal

@@ -1,7 +1,7 @@
 use Rattle.std.proofs.Common.{◌∙◌, ◌++◌, List, refl, ap, ap₂, subst}
 use Rattle.b2_props.specs.Sets.{Pair, IsSet}
 use Rattle.b2_props.specs.Refinement.{refined}
-use Rattle.b2_metatargets.specs.declared.whole.Declared.{Declared}
+use Rattle.b2_declared.specs.declared.whole.Declared.{Declared}
 use Rattle.b2_references.specs.Names.{features}
 use Rattle.b2_alternatives.specs.Needs.{property_needs}
 use Rattle.b2_alternatives.proofs.dependencies.Dependencies.take.Goals as goal

@@ -1,6 +1,6 @@
 use Rattle.std.proofs.Common.{◌∙◌, ap, cond, true}
 use Rattle.b2_references.specs.Names.{is_same}
-use Rattle.b2_alternatives.specs.Standing.{is_known}
+use Rattle.b2_alternatives.specs.DependencyWork.{is_known}
 use Rattle.b2_alternatives.proofs.KnownNamesGrowByOne.{known_more}
 use Rattle.b2_alternatives.proofs.known.KnownNames.add.Goals as goal
 

@@ -2,7 +2,7 @@ use Rattle.std.proofs.Common.{◌≡◌, ◌∙◌, ℕ, Option, Err, Ok, refl, 
 use Rattle.std.specs.Prelude.{MatchOption}
 use Rattle.std.proofs.lemmas.Result.{err_from_is_err_and}
 use Rattle.b2_sched.specs.Schedules.{IsNeeded, IsUnjudged, IsStep, CanLook}
-use Rattle.b2_sched.specs.Calls.{looked_at}
+use Rattle.b2_sched.specs.SchedulerCalls.{looked_at}
 use Rattle.b2_board.specs.declared.board.Board.{Board}
 use Rattle.b2_explain.specs.Surveys.{AreSurveyed, SurveyTold}
 use Rattle.b2_explain.proofs.SurveyGoesOn.{surveyed_taken}

@@ -6,7 +6,7 @@ use Rattle.b2_host.specs.Disks.{Disk, ReadTold}
 use Rattle.b2_plan.specs.declared.step.Step.{Step}
 use Rattle.b2_facts.specs.declared.fault.ReadFault.{ReadFault}
 use Rattle.b2_facts.specs.declared.fault.ReadFault.TheVariants as faults
-use Rattle.b2_facts.specs.declared.scans.Scanned.{Scanned}
+use Rattle.b2_facts.specs.declared.scans.ScanAnswer.{ScanAnswer}
 use Rattle.b2_facts.specs.ReadFaults.{of_io}
 use Rattle.b2_facts.specs.Facts.{path_at}
 use Rattle.b2_facts.specs.Growth.{OfOne}
@@ -30,7 +30,7 @@ returns-in_err-answer-clause-effect g c = λ path there. (
     let before = g.F.Files.outside c.args.files.now in
     let after = g.F.Files.outside c.read.new.self in
     let same : c.path.result.now ≡ path = some_is c.path.result.now path (sym c.path.ensures ∙ there) in
-    subst (λ (r : Result Scanned ReadFault). ReadsForAnswer path before after r) (sym (e ∙ ap Err q))
+    subst (λ (r : Result ScanAnswer ReadFault). ReadsForAnswer path before after r) (sym (e ∙ ap Err q))
     (subst (λ (p : List ℕ). ReadsForAnswer p before after (Err (of_io c.in_err-answer.field-0.0))) same (reads_fail ReadAnswer c.path.result.now before after c.in_err-answer.field-0.0 c.in_err-answer.ensures.effect)))
 
 pub returns-in_err-answer-clause-too_big : goal.returns-in_err-answer-clause-too_big

@@ -8,7 +8,7 @@ use Rattle.b2_facts.specs.Growth.{OfOne}
 use Rattle.b2_facts.specs.Truth.{StaysTrue, StaysTrueOf, ScansTell}
 use Rattle.b2_facts.specs.Asks.{seen_of, IsToRead}
 use Rattle.b2_host.specs.Outside.{Outside}
-use Rattle.b2_facts.specs.declared.file_facts.Seen.TheVariants as seen
+use Rattle.b2_facts.specs.declared.file_facts.FileLook.TheVariants as seen
 use Rattle.b2_facts.proofs.FactsGrow.{number_grows, learns_same, learns_then, true_same, true_of_then, told_map, told_all, told_both}
 use Rattle.b2_facts.proofs.BytesAreKept.{is_read, not_read, file_now}
 use Rattle.b2_facts.proofs.ReadsTell.{read_before, scans_later, too_big_later}

@@ -1,7 +1,7 @@
 use Rattle.std.proofs.Common.{◌≡◌, ℕ, List, Some, None, sym, subst, ◌∙◌}
 use Rattle.b2_host.specs.Disks.{Disk}
 use Rattle.b2_plan.specs.declared.step.Step.{Step}
-use Rattle.b2_facts.specs.declared.file_facts.Seen.TheVariants as seen
+use Rattle.b2_facts.specs.declared.file_facts.FileLook.TheVariants as seen
 use Rattle.b2_facts.specs.declared.file_facts.FileFacts.{FileFacts}
 use Rattle.b2_facts.specs.Growth.{OfOne}
 use Rattle.b2_facts.specs.Truth.{StaysTrue}

@@ -7,11 +7,11 @@ use Rattle.b2_generate.specs.Machine.{frame_of, names_of, standing_of, IsKept}
 use Rattle.b2_generate.specs.Making.{given_of}
 use Rattle.b2_generate.specs.Nodes.{entry_in}
 use Rattle.b2_generate.specs.Opening.{IsConflict}
-use Rattle.b2_generate.specs.Standing.{conflict}
+use Rattle.b2_generate.specs.OpenTargets.{conflict}
 use Rattle.b2_generate.specs.Taking.{IsTaken}
 use Rattle.b2_generate.specs.Turning.{IsCompleted}
 use Rattle.b2_generate.specs.declared.node.Node.{Node}
-use Rattle.b2_generate.specs.Told.{loaded_of, IsRefusal}
+use Rattle.b2_generate.specs.ToldOutcomes.{loaded_of, IsRefusal}
 use Rattle.b2_generate.proofs.OpenTargetsAreFound.{rest_found, none_twice, popped_found, popped_closed}
 use Rattle.b2_generate.proofs.TakingLeadsOn.{clashed}
 use Rattle.b2_generate.proofs.NewNodeLeadsOn.{none_below, one_below, done_over, done_adds, done_kept, done_goes, done_made, done_ends, done_leads, done_clashes}

@@ -1,6 +1,6 @@
 use Rattle.std.proofs.Common.{◌∷◌, reverse, refl, sym, subst, ◌∙◌}
 use Rattle.b2_generate.specs.Opening.{frames, AreReady}
-use Rattle.b2_generate.specs.Told.{loaded_of}
+use Rattle.b2_generate.specs.ToldOutcomes.{loaded_of}
 use Rattle.b2_generate.specs.Machine.{AreKept}
 use Rattle.b2_generate.proofs.EarlyExitGivesTheFault.{exit_is}
 use Rattle.b2_generate.proofs.StepsAreThoseDefined.{grows_none}

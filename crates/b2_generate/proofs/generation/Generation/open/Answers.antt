@@ -4,7 +4,7 @@ use Rattle.b2_references.specs.Names.{is_among}
 use Rattle.b2_generate.specs.Machine.{frame_of, standing_of, names_of}
 use Rattle.b2_generate.specs.Opening.{frames}
 use Rattle.b2_generate.specs.Stack.{IsUnderWay}
-use Rattle.b2_generate.specs.Told.{loaded_of}
+use Rattle.b2_generate.specs.ToldOutcomes.{loaded_of}
 use Rattle.b2_generate.specs.Turning.{GoOn, turns_of}
 use Rattle.b2_generate.proofs.GivenStaysWithMoreNodes.{none_added}
 use Rattle.b2_generate.proofs.DueTargetIsDeclared.{due_named}

@@ -1,7 +1,7 @@
 use Rattle.std.proofs.Common.{ℕ, ◌<◌, List, Option, IfSome, length, reverse, refl, sym, ap, ap₂, subst, ◌∙◌}
 use Rattle.std.proofs.lemmas.List.{length-reverse}
 use Rattle.b2_props.specs.Sets.{IsSet, Pair}
-use Rattle.b2_metatargets.specs.declared.whole.Declared.{Declared}
+use Rattle.b2_declared.specs.declared.whole.Declared.{Declared}
 use Rattle.b2_props.specs.Elements.{propagated}
 use Rattle.b2_references.specs.Names.{is_among}
 use Rattle.b2_alternatives.specs.Picking.{seen}
@@ -10,10 +10,10 @@ use Rattle.b2_generate.specs.Machine.{names_of, standing_of, IsKept}
 use Rattle.b2_generate.specs.Nodes.{entry_in}
 use Rattle.b2_generate.specs.Opening.{frames, IsConflict}
 use Rattle.b2_generate.specs.Remembered.{IsAskedAt}
-use Rattle.b2_generate.specs.Standing.{conflict}
+use Rattle.b2_generate.specs.OpenTargets.{conflict}
 use Rattle.b2_generate.specs.Taking.{IsTaken}
 use Rattle.b2_generate.specs.declared.node.Node.{Node}
-use Rattle.b2_generate.specs.Told.{loaded_of}
+use Rattle.b2_generate.specs.ToldOutcomes.{loaded_of}
 use Rattle.b2_generate.proofs.GivenStaysWithMoreNodes.{none_added}
 use Rattle.b2_generate.proofs.TakingLeadsOn.{clashed, entry_named, taken_leads, taken_clashes}
 use Rattle.b2_generate.proofs.DueTargetIsDeclared.{due_named}

@@ -5,8 +5,8 @@ use Rattle.b2_generate.specs.Faults.{no_target}
 use Rattle.b2_generate.specs.Generation.{names_nothing}
 use Rattle.b2_generate.specs.Machine.{frame_of, standing_of}
 use Rattle.b2_generate.specs.Stack.{opened}
-use Rattle.b2_generate.specs.Standing.{under}
-use Rattle.b2_generate.specs.Told.{loaded_of}
+use Rattle.b2_generate.specs.OpenTargets.{under}
+use Rattle.b2_generate.specs.ToldOutcomes.{loaded_of}
 use Rattle.b2_generate.proofs.EarlyExitGivesTheFault.{exit_is}
 use Rattle.b2_generate.proofs.StepsAreThoseDefined.{grows_none}
 use Rattle.b2_generate.proofs.StackLeadsToTheOutcome.{falls}

@@ -4,7 +4,7 @@ use Rattle.b2_host.specs.declared.fault.IoFault.{IoFault}
 use Rattle.b2_host.specs.ChildProcesses.{BothTold}
 use Rattle.b2_host.specs.LogChanges.{log_changes_then}
 use Rattle.b2_log.specs.declared.line.LogLine.{LogLine}
-use Rattle.b2_journal.specs.declared.reading.Reading.{Reading}
+use Rattle.b2_journal.specs.declared.log_reading.LogReading.{LogReading}
 use Rattle.b2_journal.specs.Rules.{opening_by}
 use Rattle.b2_journal.specs.Openings.{Opens, MayFailTold}
 use Rattle.b2_journal.proofs.LogIsPutBack.{read_only_log, put_back_only_log, open_begins, open_stops, read_may_fail, put_back_may_fail}
@@ -44,7 +44,7 @@ pub returns-in_err-reading-clause-may_fail : goal.returns-in_err-reading-clause-
 returns-in_err-reading-clause-may_fail g c =
     let p = err_from_is_err_and c.from_residual-in_err-reading.result c.from_residual-in_err-reading.ensures.1 in
     subst (λ (r : Result (List LogLine) IoFault). MayFailTold (g.F.Files.outside c.args.files.now) r) (sym (p.1 ∙ ap Err p.2))
-    (read_may_fail Reading (List LogLine) (g.F.Files.outside c.args.files.now) (g.F.Files.outside c.read_at.new.files) c.in_err-reading.field-0.0 c.in_err-reading.ensures.host)
+    (read_may_fail LogReading (List LogLine) (g.F.Files.outside c.args.files.now) (g.F.Files.outside c.read_at.new.files) c.in_err-reading.field-0.0 c.in_err-reading.ensures.host)
 
 pub returns-in_err-put_back-clause-may_fail : goal.returns-in_err-put_back-clause-may_fail
 returns-in_err-put_back-clause-may_fail g c =

@@ -3,7 +3,7 @@ use Rattle.std.specs.List.{Contains, AllPairs}
 use Rattle.std.proofs.lemmas.Result.{err_from_is_err_and}
 use Rattle.b2_plan.specs.declared.step.Step.{Step}
 use Rattle.b2_plan.specs.Plans.{step_at}
-use Rattle.b2_facts.specs.declared.stop.Stop.TheVariants as stops
+use Rattle.b2_facts.specs.declared.stop.FilesStop.TheVariants as stops
 use Rattle.b2_facts.specs.Growth.{OfNone}
 use Rattle.b2_facts.proofs.FactsGrow.{learns_more, number_grows}
 use Rattle.b2_looks.specs.Numbers.{AreFilesOf, AreNumbersBy}

@@ -3,11 +3,11 @@ use Rattle.std.specs.Prelude.{MatchOption}
 use Rattle.std.proofs.lemmas.Result.{err_from_is_err_and}
 use Rattle.b2_host.specs.LogChanges.{log_changes_same}
 use Rattle.b2_sched.specs.Schedules.{IsNeeded, IsUnjudged, IsStep, CanLook}
-use Rattle.b2_sched.specs.Calls.{looked_at}
+use Rattle.b2_sched.specs.SchedulerCalls.{looked_at}
 use Rattle.b2_board.specs.declared.board.Board.{Board}
 use Rattle.b2_looks.specs.UnderWay.{LookTold}
 use Rattle.b2_facts.proofs.FactsGrow.{learns_same}
-use Rattle.b2_verdicts.specs.declared.way.Way.{Way}
+use Rattle.b2_verdicts.specs.declared.judging_mode.JudgingMode.{JudgingMode}
 use Rattle.b2_looks.specs.Looks.{IsOfUnstarted, AreLooks, LooksOn}
 use Rattle.b2_looks.proofs.LooksAreKept.{on_same, on_then}
 use Rattle.b2_looks.proofs.FilesAreLookedAt.{looks_none, looks_err}
@@ -34,7 +34,7 @@ look-requires-clause-looks g c =
     looks_taken plan c.in-Some.number s.facts l c.take_look.new.self c.in-Some.ensures.after.1 (c.in-Some.ensures.board plan s.facts c.loop-number.invariant.looks.board) c.loop-number.invariant.looks
 
 pub look-requires-clause-way : goal.look-requires-clause-way
-look-requires-clause-way g c = c.loop-number.invariant.files.way ∙ c.requires.way ∙ ap (λ (w : Way). w.by_digest) (sym c.loop-number.invariant.way)
+look-requires-clause-way g c = c.loop-number.invariant.files.way ∙ c.requires.way ∙ ap (λ (w : JudgingMode). w.by_digest) (sym c.loop-number.invariant.way)
 
 pub returns-in_err-look-clause-looks : goal.returns-in_err-look-clause-looks
 returns-in_err-look-clause-looks g c =

@@ -5,8 +5,8 @@ use Rattle.b2_files.specs.Writes.{all_written}
 use Rattle.b2_files.specs.Stores.{all_known}
 use Rattle.b2_files.specs.StoreDisks.{told}
 use Rattle.b2_files.proofs.KnownPathsStayKnown.{known_stays}
-use Rattle.b2_memory.specs.declared.job.Job.{Job}
-use Rattle.b2_memory.specs.declared.running.Running.{Running}
+use Rattle.b2_memory.specs.declared.memory_job.MemoryJob.{MemoryJob}
+use Rattle.b2_memory.specs.declared.running_child.RunningChild.{RunningChild}
 use Rattle.b2_memory.specs.ChildWrites.{writes_of}
 use Rattle.b2_memory.specs.Families.{child_with}
 use Rattle.b2_memory.specs.Jobs.{given_of}
@@ -49,17 +49,17 @@ returns-clause-ended c =
     let given : Given = given_of child.job.value in
     record {
       given = given;
-      ran = get_map (λ (r : Running). child_with (given_of r.job.value)) running c.args.place ∙ ap (option_map (λ (r : Running). child_with (given_of r.job.value))) c.take-job.ensures.child;
-      step_is = sym (ap (λ (j : Job). j.step) c.as_ref.ensures);
-      ends = get_map (λ (r : Running). r.well) running c.args.place ∙ ap (option_map (λ (r : Running). r.well)) c.take-job.ensures.child;
+      ran = get_map (λ (r : RunningChild). child_with (given_of r.job.value)) running c.args.place ∙ ap (option_map (λ (r : RunningChild). child_with (given_of r.job.value))) c.take-job.ensures.child;
+      step_is = sym (ap (λ (j : MemoryJob). j.step) c.as_ref.ensures);
+      ends = get_map (λ (r : RunningChild). r.well) running c.args.place ∙ ap (option_map (λ (r : RunningChild). r.well)) c.take-job.ensures.child;
       after_is = same_memory (memory_of host)
           (Some (told c.put_all.new.self)) (Some (all_written (writes_of given child.well) (told host.store)))
           (family_of table) (without_child c.args.place given child.well (family_of host.child_table))
           (ends_well_of table.running.items) (remove (ends_well_of running) c.args.place)
           (ap Some (c.put_all.ensures.disk ∙ ap (λ ws. all_written ws (told host.store)) child.settled))
           (same_family (running_children table.running.items) (remove (running_children running) c.args.place) table.events.items _ _ _
-          (ap running_children c.take-job.ensures.running ∙ map_remove (λ (r : Running). child_with (given_of r.job.value)) running c.args.place)
+          (ap running_children c.take-job.ensures.running ∙ map_remove (λ (r : RunningChild). child_with (given_of r.job.value)) running c.args.place)
           c.take-job.ensures.events
           (ap (λ js. Some (map (λ j. given_of j.value) js)) c.take-job.ensures.given))
-          (ap ends_well_of c.take-job.ensures.running ∙ map_remove (λ (r : Running). r.well) running c.args.place);
+          (ap ends_well_of c.take-job.ensures.running ∙ map_remove (λ (r : RunningChild). r.well) running c.args.place);
     }

@@ -1,6 +1,6 @@
 use Rattle.std.proofs.Common.{◌≡◌, ◌+◌, suc, length, vec_len, zero-add, sym, subst, arith}
 use Rattle.std.proofs.lemmas.List.{length-map}
-use Rattle.b2_memory.specs.declared.running.Running.{Running}
+use Rattle.b2_memory.specs.declared.running_child.RunningChild.{RunningChild}
 use Rattle.b2_memory.specs.Scripts.{nothing_listed, no_risks}
 use Rattle.b2_memory.specs.Families.{child_with}
 use Rattle.b2_memory.specs.Jobs.{given_of}
@@ -41,5 +41,5 @@ returns c =
     let size = c.loop-child.self.child_table.running.ok.0 in
     let none : length c.loop-child.self.child_table.running.items ≡ 0 = omega (arith, left, high, len, size) in
     reopens (memory_of c.args.self.now) (memory_of c.loop-child.self) _ (length c.args.self.now.child_table.running.items) (length c.loop-child.self.child_table.running.items)
-    (sym (length-map c.args.self.now.child_table.running.items (λ (r : Running). child_with (given_of r.job.value)))) none c.loop-child.invariant.ends
+    (sym (length-map c.args.self.now.child_table.running.items (λ (r : RunningChild). child_with (given_of r.job.value)))) none c.loop-child.invariant.ends
     (same_listed (memory_of c.loop-child.self) c.clear.new.self.faults c.loop-child.self.script.faults (risks_told c.clear.new.self) no_risks (listed_of c.clear.new.self) nothing_listed c.clear.ensures.faults c.clear.ensures.risks c.clear.ensures.listed)

@@ -1,7 +1,7 @@
 use Rattle.std.proofs.Common.{◌∙◌, Ok, Err, ap}
 use Rattle.std.proofs.lemmas.Result.{err_from_is_err_and}
 use Rattle.b2_sched.specs.Schedules.{IsSettled}
-use Rattle.b2_facts.specs.declared.stop.Stop.TheVariants as stops
+use Rattle.b2_facts.specs.declared.stop.FilesStop.TheVariants as stops
 use Rattle.b2_reach.proofs.GrowthComposes.{grows_then, grows_err_as, grows_none, grows_no_memory, grows_marks}
 use Rattle.b2_reach.proofs.MembersComeIn.{wider}
 use Rattle.b2_reach.proofs.ReachGrows.{gathers_none}

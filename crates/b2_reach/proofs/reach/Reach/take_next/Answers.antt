@@ -4,7 +4,7 @@ use Rattle.std.proofs.lemmas.Result.{err_from_is_err_and}
 use Rattle.std.proofs.lemmas.List.Elements.{Contains-get_or}
 use Rattle.std.proofs.lemmas.Option.{slice_get-get_or}
 use Rattle.b2_sched.specs.Schedules.{IsSettled}
-use Rattle.b2_facts.specs.declared.stop.Stop.TheVariants as stops
+use Rattle.b2_facts.specs.declared.stop.FilesStop.TheVariants as stops
 use Rattle.b2_reach.specs.declared.reach.Reach.{Reach}
 use Rattle.b2_reach.specs.declared.due.Due.{Due}
 use Rattle.b2_reach.specs.Steps.{AreMarked, Goes}

@@ -2,7 +2,7 @@ use Rattle.std.proofs.Common.{◌∙◌, Ok, Err, sym, ap, subst}
 use Rattle.std.specs.List.{Contains}
 use Rattle.std.proofs.lemmas.Result.{err_from_is_err_and}
 use Rattle.b2_sched.specs.Schedules.{IsSettled}
-use Rattle.b2_facts.specs.declared.stop.Stop.TheVariants as stops
+use Rattle.b2_facts.specs.declared.stop.FilesStop.TheVariants as stops
 use Rattle.b2_reach.specs.declared.reach.Reach.{Reach}
 use Rattle.b2_reach.specs.Reaches.{IsInOrder}
 use Rattle.b2_reach.specs.Steps.{AreMarked, Goes}

@@ -1,6 +1,6 @@
 use Rattle.std.proofs.Common.{◌∙◌, [], Ok, Err, true, is_some, sym, ap}
 use Rattle.std.proofs.lemmas.Result.{err_from_is_err_and}
-use Rattle.b2_facts.specs.declared.scans.Scanned.TheVariants as answers
+use Rattle.b2_facts.specs.declared.scans.ScanAnswer.TheVariants as answers
 use Rattle.b2_facts.specs.declared.file_facts.FileFacts.{FileFacts}
 use Rattle.b2_facts.proofs.ListsAtPlaces.{some_is}
 use Rattle.b2_facts.specs.Stops.{stop_of_io, stop_of_read}

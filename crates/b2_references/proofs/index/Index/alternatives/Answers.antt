@@ -2,7 +2,7 @@ use Rattle.std.proofs.Common.{◌∙◌, ◌∷◌, [], map, ap}
 use Rattle.std.specs.Borrow.{Bor}
 use Rattle.std.specs.List.{filter_map, slice_get}
 use Rattle.std.proofs.lemmas.List.{map-append, take_all}
-use Rattle.b2_metatargets.specs.declared.place.Target.{Target}
+use Rattle.b2_declared.specs.declared.place.Target.{Target}
 use Rattle.b2_references.specs.Names.{numbers, alternatives}
 use Rattle.b2_references.proofs.EntriesGrowByOneTarget.{numbers_found}
 use Rattle.b2_references.proofs.LoopsTakeOneMore.{found_next}

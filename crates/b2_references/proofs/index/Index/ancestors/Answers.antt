@@ -2,7 +2,7 @@ use Rattle.std.proofs.Common.{◌≡◌, ◌∙◌, ◌++◌, ◌-◌, ◌∷◌
 use Rattle.std.specs.Borrow.{Bor}
 use Rattle.std.specs.Option.{option_map_or}
 use Rattle.std.proofs.lemmas.List.{append-nil, map-append, reverse-reverse}
-use Rattle.b2_metatargets.specs.declared.place.Place.{Place}
+use Rattle.b2_declared.specs.declared.place.Place.{Place}
 use Rattle.b2_references.specs.Names.{lineage, lineage_in}
 use Rattle.b2_references.proofs.LoopsTakeOneMore.{above_next, above_ends, above_none}
 use Rattle.b2_references.proofs.index.Index.ancestors.Goals as goal

@@ -1,7 +1,7 @@
 use Rattle.std.proofs.Common.{◌≡◌, ◌∙◌, List, map, reverse, ap, sym}
 use Rattle.std.specs.Borrow.{Bor}
-use Rattle.b2_metatargets.specs.declared.place.Place.{Place}
-use Rattle.b2_metatargets.specs.declared.place.Target.{Target}
+use Rattle.b2_declared.specs.declared.place.Place.{Place}
+use Rattle.b2_declared.specs.declared.place.Target.{Target}
 use Rattle.b2_references.specs.Names.{alternatives, lineage, default_build, first_list}
 use Rattle.b2_references.proofs.LoopsTakeOneMore.{map-map, first_own, first_other}
 use Rattle.b2_references.proofs.index.Index.default_build.Goals as goal

@@ -1,7 +1,7 @@
 use Rattle.std.proofs.Common.{◌∙◌, map, reverse, ap}
 use Rattle.std.specs.Borrow.{Bor}
 use Rattle.std.proofs.lemmas.List.{reverse-reverse}
-use Rattle.b2_metatargets.specs.declared.place.Place.{Place}
+use Rattle.b2_declared.specs.declared.place.Place.{Place}
 use Rattle.b2_references.specs.Names.{lineage}
 use Rattle.b2_references.proofs.LoopsTakeOneMore.{map-reverse}
 use Rattle.b2_references.proofs.index.Index.lineage.Goals as goal

@@ -1,6 +1,6 @@
 use Rattle.std.proofs.Common.{◌∙◌, ap}
 use Rattle.std.specs.Option.{option_and_then}
-use Rattle.b2_metatargets.specs.Gathering.{dir_of as dir_of_id}
+use Rattle.b2_declared.specs.Gathering.{dir_of as dir_of_id}
 use Rattle.b2_references.specs.References.{place_at, place_with}
 use Rattle.b2_references.proofs.index.Index.place_with.Goals as goal
 

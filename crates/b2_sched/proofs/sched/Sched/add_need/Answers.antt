@@ -1,6 +1,6 @@
 use Rattle.std.proofs.Common.{◌≡◌, get_or, ◌<◌, ℕ, List, true, false, length, sym, ◌∙◌, ap, subst, refl, arith}
 use Rattle.b2_sched.specs.Schedules.{shown, Schedule, IsSettled, IsNeeded, IsStep}
-use Rattle.b2_sched.specs.Calls.{with_need}
+use Rattle.b2_sched.specs.SchedulerCalls.{with_need}
 use Rattle.b2_sched.specs.Keeping.{IsKept}
 use Rattle.b2_sched.proofs.ChangesKeepTheInvariant.{kept_need}
 use Rattle.b2_sched.proofs.CallsDoWhatIsDefined.{set_same, need_written}

@@ -2,7 +2,7 @@ use Rattle.std.proofs.Common.{◌≡◌, ℕ, ◌-◌, ◌<◌, cond, length, se
 use Rattle.std.proofs.Math.ListN.{length-set}
 use Rattle.b2_sched.specs.declared.state.State.TheVariants.{Unjudged, Stale, Running, Settled, Failed}
 use Rattle.b2_sched.specs.Schedules.{shown, Schedule, IsRunning, state_of, is_running}
-use Rattle.b2_sched.specs.Calls.{with_failure, Settles}
+use Rattle.b2_sched.specs.SchedulerCalls.{with_failure, Settles}
 use Rattle.b2_sched.proofs.ChangesKeepTheInvariant.{step_if_not_settled, asked_if_judged, kept_failure, kept_settled, not_two}
 use Rattle.b2_sched.proofs.CallsDoWhatIsDefined.{settles_ended, some_runs, woken_read, read_within}
 use Rattle.b2_sched.proofs.FlagTellsFailure.{failure_stays, failure_comes}

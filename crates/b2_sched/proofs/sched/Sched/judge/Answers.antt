@@ -2,7 +2,7 @@ use Rattle.std.proofs.Common.{◌≡◌, ℕ, ◌<◌, List, Bool, false, cond, 
 use Rattle.std.proofs.Math.ListN.{length-set}
 use Rattle.b2_sched.specs.declared.state.State.TheVariants.{Unjudged, Stale, Settled, Failed}
 use Rattle.b2_sched.specs.Schedules.{shown, Schedule, IsNeeded, IsUnjudged, state_of, is_running}
-use Rattle.b2_sched.specs.Calls.{with_stale, Settles}
+use Rattle.b2_sched.specs.SchedulerCalls.{with_stale, Settles}
 use Rattle.b2_sched.specs.Keeping.{IsKept}
 use Rattle.b2_sched.proofs.ChangesKeepTheInvariant.{asked_if_needed, step_if_asked, kept_stale, kept_settled, not_two}
 use Rattle.b2_sched.proofs.CallsDoWhatIsDefined.{settles_judged, woken_read, read_within}

@@ -1,6 +1,6 @@
 use Rattle.std.proofs.Common.{◌<◌, length, sym, ap, subst, arith}
 use Rattle.b2_sched.specs.Schedules.{shown, Schedule}
-use Rattle.b2_sched.specs.Calls.{with_lack}
+use Rattle.b2_sched.specs.SchedulerCalls.{with_lack}
 use Rattle.b2_sched.proofs.ChangesKeepTheInvariant.{kept_lack}
 use Rattle.b2_sched.proofs.sched.Sched.lack.Goals as goal
 

@@ -1,7 +1,7 @@
 use Rattle.std.proofs.Common.{◌≡◌, ◌≤◌, ◌+◌, List, false, length, replicate, set, sym, ◌∙◌, ap, subst, arith}
 use Rattle.b2_sched.specs.declared.state.State.{State}
 use Rattle.b2_sched.specs.declared.state.State.TheVariants.{Unjudged, Settled}
-use Rattle.b2_sched.specs.Calls.{IsNew}
+use Rattle.b2_sched.specs.SchedulerCalls.{IsNew}
 use Rattle.b2_sched.specs.Keeping.{IsKept, TellsFailure}
 use Rattle.b2_sched.proofs.WantedFilesAddTheirMakers.{none_wanted}
 use Rattle.b2_sched.proofs.CallsDoWhatIsDefined.{kept_new, is_new}

@@ -1,6 +1,6 @@
 use Rattle.std.proofs.Common.{List, Bool, sym, ◌∙◌, ap, subst}
 use Rattle.b2_sched.specs.Schedules.{shown, Schedule}
-use Rattle.b2_sched.specs.Calls.{looked_at}
+use Rattle.b2_sched.specs.SchedulerCalls.{looked_at}
 use Rattle.b2_sched.specs.Keeping.{IsKept, LooksNext}
 use Rattle.b2_sched.proofs.ChangesKeepTheInvariant.{kept_looked, looks_next}
 use Rattle.b2_sched.proofs.sched.Sched.take_look.Goals as goal

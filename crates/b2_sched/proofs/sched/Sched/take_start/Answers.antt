@@ -2,7 +2,7 @@ use Rattle.std.proofs.Common.{inr, ◌+◌, ◌≤◌, List, Bool, get_or, sym, 
 use Rattle.std.specs.Option.{MatchOption}
 use Rattle.b2_sched.specs.declared.state.State.TheVariants.{Stale, Running, Settled, Failed}
 use Rattle.b2_sched.specs.Schedules.{shown, Schedule, running}
-use Rattle.b2_sched.specs.Calls.{with_start, StartsNext, StartsNone}
+use Rattle.b2_sched.specs.SchedulerCalls.{with_start, StartsNext, StartsNone}
 use Rattle.b2_sched.specs.Keeping.{IsKept}
 use Rattle.b2_sched.proofs.ChangesKeepTheInvariant.{kept_start, not_two}
 use Rattle.b2_sched.proofs.CallsDoWhatIsDefined.{starts_next, starts_none}

@@ -1,5 +1,5 @@
 use Rattle.std.proofs.Common.{◌≡◌, take}
-use Rattle.b2_planning.specs.TableRows.{rows_of}
+use Rattle.b2_request_plan.specs.TableRows.{rows_of}
 use Rattle.b2_testing.specs.Asking.{tests_by}
 use Rattle.b2_testing.proofs.requested.Asking.tests.Given as goal
 

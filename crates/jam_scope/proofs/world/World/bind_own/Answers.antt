@@ -3,7 +3,7 @@ use Rattle.jam_journal.specs.Marks.{Marked, changed}
 use Rattle.jam_journal.specs.Scopes.{Scopes, bind_each}
 use Rattle.jam_scope.specs.Worlds.{Worlds}
 use Rattle.jam_scope.specs.Changes.{rescoped, own_of}
-use Rattle.jam_scope.specs.Parts.{together, worlds_of}
+use Rattle.jam_scope.specs.WorldParts.{together, worlds_of}
 use Rattle.jam_scope.proofs.NamesAreBoundInTurn.{on_err}
 use Rattle.jam_scope.proofs.world.World.bind_own.Goals as goal
 

@@ -1,0 +1,15 @@
+pub mod StripPrefixGivesWhatFollows
+pub mod OnlyDecimalsAreNumbers
+pub mod ClapReadsWhatGrammarGives
+pub mod RequestsReadLeftToRight
+pub mod NewValuesChangeOneRow
+pub mod RowsShowTheRequest
+pub mod EachWordHasItsShape
+pub mod EachDecidesOrRestDoes
+pub mod ClapAgreesOnGroups
+pub mod ClapAgreesOnLongOptions
+pub mod ClapAgreesOnAllWords
+pub mod ClapAcceptsWhatRequestsRead
+pub mod AsciiBytesAreCharacters
+pub mod ItemsAskWhatTheyMean
+pub mod RequestsReadAsGrammarSays

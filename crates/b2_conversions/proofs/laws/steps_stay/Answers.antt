@@ -1,5 +1,0 @@
-use Rattle.b2_conversions.proofs.EarlierStepsAreKept.{steady_kind}
-use Rattle.b2_conversions.proofs.laws.steps_stay.Goals as goal
-
-pub returns : goal.returns
-returns g c = λ ctx s. (steady_kind ctx s s.kind).stays

@@ -1,5 +1,0 @@
-use Rattle.b2_loaded.proofs.GivenFaultChangesOneQuestion.{own_ends, other_ends}
-use Rattle.b2_loaded.proofs.laws.one_fault_is_given.Goals as goal
-
-pub returns : goal.returns
-returns c = record { own = own_ends; others = other_ends }

@@ -1,0 +1,5 @@
+use Rattle.b2_making.proofs.EarlierStepsAreKept.{steady_kind}
+use Rattle.b2_making.proofs.laws.steps_stay.Goals as goal
+
+pub returns : goal.returns
+returns g c = λ ctx s. (steady_kind ctx s s.kind).stays

@@ -1,7 +1,0 @@
-use Rattle.std.proofs.Common.{◌≡◌, map, take}
-use Rattle.b2_metatargets.specs.Gathering.{bare}
-use Rattle.b2_metatargets.proofs.gathered.bare_all.Given as goal
-
--- the projects made so far
-abbrev pub invariant-loop-visit : goal.invariant-loop-visit
-invariant-loop-visit l = l.made.items ≡ map bare (take l.visit-index l.visits)

@@ -1,7 +1,0 @@
-use Rattle.std.proofs.Common.{Ok}
-use Rattle.b2_metatargets.specs.Carrying.{properties_in}
-use Rattle.b2_metatargets.proofs.RefusalIsTheStepsFault.{reading_is_fault}
-use Rattle.b2_metatargets.proofs.lists.read_pairs.Goals as goal
-
-pub returns-in-Err-clause-fault : goal.returns-in-Err-clause-fault
-returns-in-Err-clause-fault c = reading_is_fault c.args.visit.now c.args.call.now (properties_in c.args.registry.now c.args.visit.now c.args.texts.now) Ok c.in-Err.fault c.feature_refusal.result c.in-Err.ensures.fault c.feature_refusal.ensures

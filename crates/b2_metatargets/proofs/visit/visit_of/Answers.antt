@@ -1,5 +1,0 @@
-use Rattle.b2_metatargets.proofs.PlaceHoldsWhatWasRead.{visit_read}
-use Rattle.b2_metatargets.proofs.visit.visit_of.Goals as goal
-
-pub returns : goal.returns
-returns c = visit_read c.args.visits.now c.args.call.now _ c.requires c.index-visits-call.is

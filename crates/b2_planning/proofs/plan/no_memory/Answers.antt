@@ -1,6 +1,0 @@
-use Rattle.std.proofs.Common.{refl}
-use Rattle.b2_planning.proofs.PlanIsWhatWasGenerated.{out_answered}
-use Rattle.b2_planning.proofs.plan.no_memory.Goals as goal
-
-pub returns : goal.returns
-returns g c = λ d roots request. out_answered _ refl refl refl

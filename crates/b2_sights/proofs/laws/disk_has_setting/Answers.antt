@@ -1,5 +1,0 @@
-use Rattle.b2_sights.proofs.SettingOfDisk.{has_setting}
-use Rattle.b2_sights.proofs.laws.disk_has_setting.Goals as goal
-
-pub returns : goal.returns
-returns g c = has_setting c.each_sight_has_setting.ensures

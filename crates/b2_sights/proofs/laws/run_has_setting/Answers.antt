@@ -1,5 +1,0 @@
-use Rattle.b2_sights.proofs.SettingOfDisk.{run_has}
-use Rattle.b2_sights.proofs.laws.run_has_setting.Goals as goal
-
-pub returns : goal.returns
-returns g c = run_has c.each_sight_has_setting.ensures

@@ -1,5 +1,0 @@
--- What the files define.
--- `Sights`: each consistent disk can be seen rightly, and has a right setting for each evaluation and each load
--- These lemmas have a crate of their own, since definitions of b2_loaded name them.
-
-pub mod Sights

@@ -1,6 +1,0 @@
-use Rattle.std.proofs.Common.{◌≡◌, take, map}
-use Rattle.b2_walk.specs.Calls.{call_of}
-use Rattle.b2_walk.proofs.calls.calls_of.Given as goal
-
-abbrev pub invariant-loop-decl : goal.invariant-loop-decl
-invariant-loop-decl l = l.calls.items ≡ map (call_of l.project) (take l.decl-index l.decls)

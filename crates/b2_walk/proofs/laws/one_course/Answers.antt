@@ -1,5 +1,0 @@
-use Rattle.b2_walk.proofs.OneCourse as by
-use Rattle.b2_walk.proofs.laws.one_course.Goals as goal
-
-pub returns : goal.returns
-returns c = by.one_course

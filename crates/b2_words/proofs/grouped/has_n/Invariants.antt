@@ -1,6 +1,0 @@
-use Rattle.std.proofs.Common.{◌≡◌, drop}
-use Rattle.b2_words.specs.Grouped.{has_n}
-use Rattle.b2_words.proofs.grouped.has_n.Given as goal
-
-abbrev pub invariant-loop-letter : goal.invariant-loop-letter
-invariant-loop-letter l = has_n (drop l.letter-index l.letters) ≡ has_n l.letters

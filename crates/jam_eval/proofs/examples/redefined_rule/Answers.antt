@@ -1,5 +1,0 @@
-use Rattle.jam_eval.proofs.CallsHold.{redefined_rule}
-use Rattle.jam_eval.proofs.examples.redefined_rule.Goals as goal
-
-pub returns : goal.returns
-returns c = redefined_rule

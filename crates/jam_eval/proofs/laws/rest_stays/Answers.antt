@@ -1,7 +1,0 @@
-use Rattle.jam_eval.specs.Laws.{SameRest}
-use Rattle.jam_eval.proofs.FramesStay.{rest_kept}
-use Rattle.jam_eval.proofs.KeptByEval.{run_keeps}
-use Rattle.jam_eval.proofs.laws.rest_stays.Goals as goal
-
-pub returns : goal.returns
-returns c _ setting natives path trees s = run_keeps setting SameRest SameRest (rest_kept setting natives) path trees s
