@@ -34,6 +34,7 @@ use b2_plan::plan::Plan;
 use b2_reach::sights::Sights;
 use b2_verdicts::judging_mode::JudgingMode;
 use std::alloc::Global;
+use std::mem::forget;
 
 /// Opens the log, and begins an update.
 fn begin<F: Files>(
@@ -141,7 +142,12 @@ fn run_update<H: Children, S: Sink>(
         (moment (H.outside host.new) (S.output out.new)) result }
 {
     match begin(alloc, plan, options, host) {
-        Ok(mut run) => run_to_end(alloc, plan, &mut run, host, out),
+        Ok(mut run) => {
+            let answer = run_to_end(alloc, plan, &mut run, host, out);
+            // The program ends soon after; to take the tables apart, entry by entry, would cost as much as to fill them.
+            forget(run);
+            answer
+        }
         Err(IoFault::Failed) => UpdateAnswer::HostFault,
         Err(IoFault::OutOfMemory) => UpdateAnswer::OutOfMemory,
     }

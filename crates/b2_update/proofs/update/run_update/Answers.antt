@@ -13,14 +13,14 @@ use Rattle.b2_update.proofs.AnswerIsGiven.{begin_is_answered}
 use Rattle.b2_update.proofs.BegunIsTold.{begun_told, host_failed, memory_failed}
 use Rattle.b2_update.proofs.update.run_update.Goals as goal
 
-pub run_to_end-requires-clause-going : goal.run_to_end-requires-clause-going
-run_to_end-requires-clause-going g c = (moment (g.H.Files.outside c.args.host.now) (g.S.Sink.output c.args.out.now), c.in-Ok.ensures.going (g.S.Sink.output c.args.out.now))
+pub run_to_end-answer-requires-clause-going : goal.run_to_end-answer-requires-clause-going
+run_to_end-answer-requires-clause-going g c = (moment (g.H.Files.outside c.args.host.now) (g.S.Sink.output c.args.out.now), c.in-Ok.ensures.going (g.S.Sink.output c.args.out.now))
 
 pub returns-in-Ok-clause-answered : goal.returns-in-Ok-clause-answered
 returns-in-Ok-clause-answered g c =
     let here = moment (g.H.Files.outside c.args.host.now) (g.S.Sink.output c.args.out.now) in
-    let last = moment (g.H.Files.outside c.run_to_end.new.host) (g.S.Sink.output c.run_to_end.new.out) in
-    subst (λ n. IsAnswered c.args.plan.now n here last c.run_to_end.result) c.in-Ok.ensures.jobs (c.run_to_end.ensures.answered here (c.in-Ok.ensures.going (g.S.Sink.output c.args.out.now)))
+    let last = moment (g.H.Files.outside c.run_to_end-answer.new.host) (g.S.Sink.output c.run_to_end-answer.new.out) in
+    subst (λ n. IsAnswered c.args.plan.now n here last c.run_to_end-answer.result) c.in-Ok.ensures.jobs (c.run_to_end-answer.ensures.answered here (c.in-Ok.ensures.going (g.S.Sink.output c.args.out.now)))
 
 pub returns-in-Err-Failed-clause-answered : goal.returns-in-Err-Failed-clause-answered
 returns-in-Err-Failed-clause-answered g c =
@@ -38,9 +38,9 @@ pub returns-in-Ok-clause-told : goal.returns-in-Ok-clause-told
 returns-in-Ok-clause-told g c =
     let entry = moment (g.H.Files.outside c.args.host.now) (g.S.Sink.output c.args.out.now) in
     let here = moment (g.H.Files.outside c.begin.new.files) (g.S.Sink.output c.args.out.now) in
-    let after = moment (g.H.Files.outside c.run_to_end.new.host) (g.S.Sink.output c.run_to_end.new.out) in
-    begun_told c.args.plan.now c.args.options g.H.Children.made entry here after c.in-Ok.run' c.run_to_end.result c.in-Ok.ensures.jobs c.in-Ok.ensures.asked c.run_to_end.ensures.kept.files
-    (c.in-Ok.ensures.told entry.out g.H.Children.made) c.run_to_end.ensures.told
+    let after = moment (g.H.Files.outside c.run_to_end-answer.new.host) (g.S.Sink.output c.run_to_end-answer.new.out) in
+    begun_told c.args.plan.now c.args.options g.H.Children.made entry here after c.in-Ok.run' c.run_to_end-answer.result c.in-Ok.ensures.jobs c.in-Ok.ensures.asked c.run_to_end-answer.ensures.kept.files
+    (c.in-Ok.ensures.told entry.out g.H.Children.made) c.run_to_end-answer.ensures.told
 
 pub returns-in-Err-Failed-clause-told : goal.returns-in-Err-Failed-clause-told
 returns-in-Err-Failed-clause-told g c =
