@@ -29,6 +29,9 @@ pub fn open_frame(
     Ok(())
 }
 
+/// Room for the frame of a call and what nearly every call binds in it.
+const ROOM: usize = 16;
+
 /// Opens the frame of a call. After an error nothing has changed.
 pub fn open_call(
     alloc: Global,
@@ -43,7 +46,7 @@ pub fn open_call(
 {
     let owner = Name::new(alloc, owner)?;
     let caller = registers.owner.share()?;
-    entries.reserve(1)?;
+    entries.reserve(ROOM)?;
     let owner = mem::replace(&mut registers.owner, owner);
     let caller = mem::replace(&mut registers.caller, caller);
     entries.push_reserved(Scope::Called { owner, caller });
