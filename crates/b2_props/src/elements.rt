@@ -66,9 +66,15 @@ fn element(alloc: Global, registry: &Registry, pair: &(Text, Text)) -> Result<Te
     if is_with(registry, Attribute::Implicit, pair.0.as_str()) {
         return pair.1.copy();
     }
-    let mut text = String::from_str(alloc, pair.0.as_str())?;
+    let feature = pair.0.as_str();
+    let value = pair.1.as_str();
+    let mut text = String::with_capacity(
+        alloc,
+        feature.len().saturating_add(value.len()).saturating_add(1),
+    )?;
+    text.push_str(feature)?;
     text.push('-')?;
-    text.push_str(pair.1.as_str())?;
+    text.push_str(value)?;
     Ok(Text::from_string(text))
 }
 
@@ -78,6 +84,7 @@ fn elements(alloc: Global, registry: &Registry, set: &Props) -> Result<Vec<Text>
     let mut given = Draft::new(alloc);
     given.add_components(registry, set.pairs())?;
     let mut found = Vec::new(alloc);
+    found.reserve_exact(set.pairs().len())?;
     for pair in set.pairs() {
         if shows(registry, &given, pair) {
             found.push(element(alloc, registry, pair)?)?;
@@ -86,10 +93,19 @@ fn elements(alloc: Global, registry: &Registry, set: &Props) -> Result<Vec<Text>
     Ok(found)
 }
 
+/// The room that pieces with a slash after each take.
+fn room_for(pieces: &[Text]) -> usize {
+    let mut room: usize = 0;
+    for piece in pieces {
+        room = room.saturating_add(piece.as_str().len()).saturating_add(1);
+    }
+    room
+}
+
 fn join(alloc: Global, pieces: &[Text]) -> Result<Text, OutOfMemory>
     ensures { IfOk result (λ made. made ≡ join_with_byte 47 pieces.now) }
 {
-    let mut text = String::new(alloc);
+    let mut text = String::with_capacity(alloc, room_for(pieces))?;
     for (i, piece) in pieces.iter().enumerate() {
         if i > 0 {
             text.push('/')?;

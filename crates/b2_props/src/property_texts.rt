@@ -21,6 +21,7 @@ pub fn property_texts(alloc: Global, properties: &[(Text, Text)]) -> Result<Text
     ensures { IfOk result (λ texts. texts ≡ map property_text properties.now) }
 {
     let mut texts = TextList::new(alloc);
+    texts.reserve(properties.len())?;
     for property in properties {
         texts.push(property_text(alloc, property)?)?;
     }
