@@ -1,9 +1,12 @@
 -- What the parts of making steps promise.
-use Rattle.std.specs.Prelude.{◌≡◌, ◌≢◌, ℕ, Bool, List, [], ◌∷◌, Option, Some, None, Result, Ok, Err, IfOk, IfErr, codes}
+use Rattle.std.specs.Prelude.{◌≡◌, ◌≢◌, ℕ, Bool, List, [], ◌∷◌, Option, Some, None, Result, Ok, Err, IfOk, IfErr, codes, map}
 use Rattle.std.specs.Option.{option_copied, option_map_or}
 use Rattle.b2_plan.specs.declared.step.Step.{Step}
 use Rattle.b2_plan.specs.Sources.{IsInRoots}
+use Rattle.b2_features.specs.Table.{DeclaredFeature}
+use Rattle.b2_props.specs.Sets.{Pair}
 use Rattle.b2_props.specs.Elements.{dir_text}
+use Rattle.b2_props.specs.Texts.{property_text}
 use Rattle.b2_virtual.specs.Paths.{output_path, located, IsPlaced}
 use Rattle.b2_base.specs.Segments.{file_name}
 use Rattle.b2_virtual.specs.declared.fault.VirtualFault.{VirtualFault}
@@ -21,6 +24,7 @@ use Rattle.b2_making.specs.declared.along.Route.{Route}
 use Rattle.b2_virtual.specs.declared.entry.Entry.{Entry}
 use Rattle.b2_virtual.specs.declared.entry.Supply.{Supply}
 use Rattle.b2_making.specs.declared.output.Output.{Output}
+use Rattle.b2_making.specs.declared.set_texts.SetTexts.{SetTexts}
 use Rattle.b2_making.specs.declared.setting.Setting.{Setting}
 use Rattle.b2_making.specs.declared.site.Site as code
 use Rattle.b2_making.specs.declared.fault.MakingFault.{MakingFault}
@@ -54,6 +58,12 @@ IsOfNoEval (LocationOutside path) = Unit {0}
 IsOfNoEval (TooManySteps count) = Unit {0}
 IsOfNoEval (Eval fault) = ⊥
 IsOfNoEval OutOfMemory = Unit {0}
+
+-- ---- sets
+
+-- how a set shows in paths, and its properties as texts
+abbrev pub texts_of : List DeclaredFeature → List Pair → SetTexts
+texts_of table set = record { dir = dir_text table set; props = map property_text set }
 
 -- ---- paths
 

@@ -4,15 +4,15 @@ ghost use Rattle.std.specs.List.{AllByRecursion};
 ghost use Rattle.std.specs.Option.{option_copied, option_map_or};
 ghost use Rattle.b2_base.specs.Bytes.{HasNoZero};
 ghost use Rattle.b2_plan.specs.declared.step.Step.{Step as PlanStep};
-ghost use Rattle.b2_props.specs.Sets.{IsSet};
 ghost use Rattle.b2_making.specs.Acts.{for_all};
 ghost use Rattle.b2_virtual.specs.Supplies.{is_of};
-ghost use Rattle.b2_making.specs.MakingParts.{GivesSome, if_last, Alone, Does, along_route};
+ghost use Rattle.b2_making.specs.MakingParts.{GivesSome, if_last, Alone, Does, along_route, texts_of};
 ghost use Rattle.b2_making.specs.Conversions.{chains, outputs_of, naming, first_tail, to_objects, linked};
 
 use crate::fault::MakingFault;
 use crate::output::{Output, OutputList, naming, outputs_of};
 use crate::run::run;
+use crate::set_texts::SetTexts;
 use crate::setting::Setting;
 use crate::site::Site;
 use b2_base::fault::OutOfMemory;
@@ -91,12 +91,13 @@ fn named_outputs(
 fn along<V: Evaluate>(
     setting: &Setting<'_>,
     site: &Site<'_>,
+    texts: &SetTexts,
     route: &Route<'_, '_>,
     ins: EntryList,
     evaluator: &mut V,
     builder: &mut Builder,
 ) -> Result<EntryList, MakingFault<V::Fault>>
-    requires set { IsSet setting.now.registry.now site.now.set.now }
+    requires texts { texts.now ≡ texts_of setting.now.registry.now site.now.set.now }
     requires given { AllByRecursion (GivesSome setting.now.types.now.generators) route.now.ids.now }
     ensures { Does V.Evaluate (along_route route.now ins) setting.now site.now evaluator.old evaluator.new builder.old builder.new result }
 {
@@ -107,7 +108,7 @@ fn along<V: Evaluate>(
         let named = route.named_at(place);
         let outputs = named_outputs(setting, id, tail, named)?;
         let outs = outputs.as_slice();
-        entries = run(setting, site, id, entries, outs, evaluator, builder)?;
+        entries = run(setting, site, texts, id, entries, outs, evaluator, builder)?;
     }
     Ok(entries)
 }
@@ -134,11 +135,12 @@ fn one(alloc: Global, entry: &Entry) -> Result<EntryList, OutOfMemory>
 fn to_objects<V: Evaluate>(
     setting: &Setting<'_>,
     site: &Site<'_>,
+    texts: &SetTexts,
     entry: &Entry,
     evaluator: &mut V,
     builder: &mut Builder,
 ) -> Result<EntryList, MakingFault<V::Fault>>
-    requires set { IsSet setting.now.registry.now site.now.set.now }
+    requires texts { texts.now ≡ texts_of setting.now.registry.now site.now.set.now }
     ensures { Does V.Evaluate (λ c s. to_objects c s entry.now) setting.now site.now evaluator.old evaluator.new builder.old builder.new result }
 {
     let ids = chain_ids::<V::Fault>(setting, site, entry.file_type.as_str(), "OBJ")?;
@@ -149,7 +151,7 @@ fn to_objects<V: Evaluate>(
         named: None,
         spare: &entry.tail,
     };
-    let made = along(setting, site, &route, ins, evaluator, builder)?;
+    let made = along(setting, site, texts, &route, ins, evaluator, builder)?;
     Ok(only_objects(made))
 }
 
@@ -157,16 +159,17 @@ fn to_objects<V: Evaluate>(
 pub(crate) fn all_objects<V: Evaluate>(
     setting: &Setting<'_>,
     site: &Site<'_>,
+    texts: &SetTexts,
     entries: &[Entry],
     evaluator: &mut V,
     builder: &mut Builder,
 ) -> Result<EntryList, MakingFault<V::Fault>>
-    requires set { IsSet setting.now.registry.now site.now.set.now }
+    requires texts { texts.now ≡ texts_of setting.now.registry.now site.now.set.now }
     ensures { Does V.Evaluate (λ c s. for_all (to_objects c s) entries.now) setting.now site.now evaluator.old evaluator.new builder.old builder.new result }
 {
     let mut made = EntryList::new(setting.alloc);
     for entry in entries {
-        let objects = to_objects(setting, site, entry, evaluator, builder)?;
+        let objects = to_objects(setting, site, texts, entry, evaluator, builder)?;
         made = joined(made, objects)?;
     }
     Ok(made)
@@ -188,12 +191,13 @@ fn first_of(alloc: Global, entries: &[Entry], file_type: &str) -> Result<EntryLi
 pub(crate) fn linked<V: Evaluate>(
     setting: &Setting<'_>,
     site: &Site<'_>,
+    texts: &SetTexts,
     named: &Output,
     ins: EntryList,
     evaluator: &mut V,
     builder: &mut Builder,
 ) -> Result<EntryList, MakingFault<V::Fault>>
-    requires set { IsSet setting.now.registry.now site.now.set.now }
+    requires texts { texts.now ≡ texts_of setting.now.registry.now site.now.set.now }
     ensures { Does V.Evaluate (λ c s. linked c s named.now ins) setting.now site.now evaluator.old evaluator.new builder.old builder.new result }
 {
     let ids = chain_ids::<V::Fault>(setting, site, "OBJ", named.file_type.as_str())?;
@@ -203,7 +207,7 @@ pub(crate) fn linked<V: Evaluate>(
         named: Some(named),
         spare: &named.tail,
     };
-    let made = along(setting, site, &route, ins, evaluator, builder)?;
+    let made = along(setting, site, texts, &route, ins, evaluator, builder)?;
     let found = made.as_slice();
     let entries = first_of(setting.alloc, found, named.file_type.as_str())?;
     Ok(entries)

@@ -20,6 +20,7 @@ mod named;
 mod output;
 mod place;
 mod run;
+mod set_texts;
 pub mod setting;
 pub mod site;
 mod step;

@@ -7,7 +7,7 @@ ghost use Rattle.b2_making.specs.Contexts.{site_of};
 ghost use Rattle.b2_virtual.specs.Supplies.{is_header, entries_of, carried_of, libraries_of};
 ghost use Rattle.b2_making.specs.Conversions.{links, makes_objects, makes_program, makes_library, makes_file, makes, to_convert};
 ghost use Rattle.b2_making.specs.Answers.{IsKnownFault, is_of_eval, Grows};
-ghost use Rattle.b2_making.specs.MakingParts.{Does, Makes, RefusesToMake};
+ghost use Rattle.b2_making.specs.MakingParts.{Does, Makes, RefusesToMake, texts_of};
 
 use crate::along::{all_objects, linked};
 use crate::copies::make_copies;
@@ -15,6 +15,7 @@ use crate::fault::MakingFault;
 use crate::named::{is_shared, library_file, named_file, program};
 use crate::output::Output;
 use crate::run::run;
+use crate::set_texts::{SetTexts, set_texts};
 use crate::setting::Setting;
 use crate::site::Site;
 use b2_base::fault::OutOfMemory;
@@ -53,8 +54,9 @@ fn make_objects<V: Evaluate>(
     ensures { Does V.Evaluate makes_objects setting.now site.now evaluator.old evaluator.new builder.old builder.new result }
 {
     let sources = without_headers(setting.alloc, site)?;
+    let texts = set_texts(setting, site)?;
     let entries = sources.as_slice();
-    let made = all_objects(setting, site, entries, evaluator, builder)?;
+    let made = all_objects(setting, site, &texts, entries, evaluator, builder)?;
     Ok(only(setting.alloc, made))
 }
 
@@ -76,22 +78,23 @@ fn linked_libraries(
 fn link<V: Evaluate>(
     setting: &Setting<'_>,
     site: &Site<'_>,
+    texts: &SetTexts,
     named: &Output,
     with_libraries: bool,
     evaluator: &mut V,
     builder: &mut Builder,
 ) -> Result<EntryList, MakingFault<V::Fault>>
-    requires { IsSet setting.now.registry.now site.now.set.now }
+    requires { texts.now ≡ texts_of setting.now.registry.now site.now.set.now }
     ensures { Does V.Evaluate (λ c s. links c s named.now with_libraries) setting.now site.now evaluator.old evaluator.new builder.old builder.new result }
 {
     let sources = to_convert(setting.alloc, site)?;
     let entries = sources.as_slice();
-    let objects = all_objects(setting, site, entries, evaluator, builder)?;
+    let objects = all_objects(setting, site, texts, entries, evaluator, builder)?;
     // nothing reads the sources while the text of the last step is evaluated
     drop(sources);
     let libraries = linked_libraries(setting.alloc, site, with_libraries)?;
     let ins = joined(objects, libraries)?;
-    linked(setting, site, named, ins, evaluator, builder)
+    linked(setting, site, texts, named, ins, evaluator, builder)
 }
 
 fn make_program<V: Evaluate>(
@@ -104,7 +107,8 @@ fn make_program<V: Evaluate>(
     ensures { Does V.Evaluate makes_program setting.now site.now evaluator.old evaluator.new builder.old builder.new result }
 {
     let named = program(setting.alloc, site)?;
-    let entries = link(setting, site, &named, true, evaluator, builder)?;
+    let texts = set_texts(setting, site)?;
+    let entries = link(setting, site, &texts, &named, true, evaluator, builder)?;
     Ok(only(setting.alloc, entries))
 }
 
@@ -118,7 +122,16 @@ fn make_library<V: Evaluate>(
     ensures { Does V.Evaluate makes_library setting.now site.now evaluator.old evaluator.new builder.old builder.new result }
 {
     let named = library_file(setting.alloc, setting.types, site)?;
-    let entries = link(setting, site, &named, is_shared(site), evaluator, builder)?;
+    let texts = set_texts(setting, site)?;
+    let entries = link(
+        setting,
+        site,
+        &texts,
+        &named,
+        is_shared(site),
+        evaluator,
+        builder,
+    )?;
     let carried = libraries_of(setting.alloc, site.parts)?;
     Ok(Supply { entries, carried })
 }
@@ -134,9 +147,12 @@ fn make_file<V: Evaluate>(
 {
     let ins = entries_of(setting.alloc, site.parts)?;
     let named = named_file(setting.alloc, setting.types, site)?;
+    let texts = set_texts(setting, site)?;
     let outputs = [named];
     let outs = outputs.as_slice();
-    let entries = run(setting, site, site.rule, ins, outs, evaluator, builder)?;
+    let entries = run(
+        setting, site, &texts, site.rule, ins, outs, evaluator, builder,
+    )?;
     Ok(only(setting.alloc, entries))
 }
 

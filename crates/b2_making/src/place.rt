@@ -1,9 +1,9 @@
 //! The paths of outputs.
-ghost use Rattle.std.specs.Prelude.{codes, List, None, if◌then◌else◌};
+ghost use Rattle.std.specs.Prelude.{◌≡◌, codes, List, None, if◌then◌else◌};
 ghost use Rattle.b2_base.specs.Bytes.{HasNoZero};
 ghost use Rattle.b2_plan.specs.declared.step.Step.{Step as PlanStep};
 ghost use Rattle.b2_plan.specs.Sources.{IsInRoots};
-ghost use Rattle.b2_props.specs.Sets.{IsSet};
+ghost use Rattle.b2_props.specs.Elements.{dir_text};
 ghost use Rattle.b2_virtual.specs.Paths.{located, IsPlaced};
 ghost use Rattle.b2_making.specs.Acts.{for_each};
 ghost use Rattle.b2_making.specs.MakingParts.{IsInside, IsPlacedAt, Alone, bin_path};
@@ -15,23 +15,23 @@ use crate::setting::Setting;
 use crate::site::Site;
 use crate::step::location_of;
 use b2_base::path::{Path, path_of};
+use b2_base::text::Text;
 use b2_plan::roots::is_in_roots;
-use b2_props::elements::dir_of;
 use b2_virtual::entry::{Entry, EntryList};
 use b2_virtual::fault::VirtualFault;
 use b2_virtual::paths::{location_path, output_path};
 
-/// The path of an output in `bin`, which lies in the output roots.
+/// The path of an output in `bin`, which lies in the output roots, by the part of it that tells the set.
 fn path_in_bin(
     setting: &Setting<'_>,
     site: &Site<'_>,
+    dir: &Text,
     output: &Output,
 ) -> Result<Path, VirtualFault>
-    requires { IsSet setting.now.registry.now site.now.set.now }
+    requires { dir.now ≡ dir_text setting.now.registry.now site.now.set.now }
     ensures { IsInside (IsInRoots setting.now.roots.now (bin_path setting.now site.now output.now)) (bin_path setting.now site.now output.now) result }
 {
-    let elements = dir_of(setting.alloc, setting.registry, site.set)?;
-    let path = output_path(setting.alloc, elements.as_str(), &output.tail)?;
+    let path = output_path(setting.alloc, dir.as_str(), &output.tail)?;
     if !is_in_roots(setting.roots, &path) {
         return Err(VirtualFault::LocationOutside { path });
     }
@@ -53,8 +53,13 @@ pub(crate) fn path_at(
 }
 
 /// The path of an output: at the location of the set, where it moves and there is one, else in `bin`.
-fn path_for(setting: &Setting<'_>, site: &Site<'_>, output: &Output) -> Result<Path, VirtualFault>
-    requires { IsSet setting.now.registry.now site.now.set.now }
+fn path_for(
+    setting: &Setting<'_>,
+    site: &Site<'_>,
+    dir: &Text,
+    output: &Output,
+) -> Result<Path, VirtualFault>
+    requires { dir.now ≡ dir_text setting.now.registry.now site.now.set.now }
     ensures { IsPlacedAt setting.now site.now output.now (if output.now.moves then location_of site.now.set.now else None) result }
 {
     if output.moves {
@@ -62,19 +67,20 @@ fn path_for(setting: &Setting<'_>, site: &Site<'_>, output: &Output) -> Result<P
             return path_at(setting, location.as_str(), output.tail.file_name());
         }
     }
-    path_in_bin(setting, site, output)
+    path_in_bin(setting, site, dir, output)
 }
 
 /// An output with its path.
 fn place<F: Drop>(
     setting: &Setting<'_>,
     site: &Site<'_>,
+    dir: &Text,
     output: &Output,
 ) -> Result<Entry, MakingFault<F>>
-    requires { IsSet setting.now.registry.now site.now.set.now }
+    requires { dir.now ≡ dir_text setting.now.registry.now site.now.set.now }
     ensures { (before : List PlanStep) → Alone (λ c s. places c s output.now) setting.now site.now before before result }
 {
-    let path = path_for(setting, site, output)?;
+    let path = path_for(setting, site, dir, output)?;
     let file_type = output.file_type.copy()?;
     let tail = output.tail.copy()?;
     Ok(Entry {
@@ -89,14 +95,15 @@ fn place<F: Drop>(
 pub(crate) fn place_all<F: Drop>(
     setting: &Setting<'_>,
     site: &Site<'_>,
+    dir: &Text,
     outputs: &[Output],
 ) -> Result<EntryList, MakingFault<F>>
-    requires { IsSet setting.now.registry.now site.now.set.now }
+    requires { dir.now ≡ dir_text setting.now.registry.now site.now.set.now }
     ensures { (before : List PlanStep) → Alone (λ c s. for_each (places c s) outputs.now) setting.now site.now before before result }
 {
     let mut made = EntryList::new(setting.alloc);
     for output in outputs {
-        let entry = place::<F>(setting, site, output)?;
+        let entry = place::<F>(setting, site, dir, output)?;
         made.push(entry)?;
     }
     Ok(made)

@@ -1,15 +1,16 @@
 //! Steps that are made and joined.
-ghost use Rattle.std.specs.Prelude.{◌≡◌, ◌≢◌, [], IfOk};
-ghost use Rattle.b2_props.specs.Sets.{IsSet};
+ghost use Rattle.std.specs.Prelude.{◌≡◌, ◌≢◌, [], map, IfOk};
+ghost use Rattle.b2_props.specs.Texts.{property_text};
 ghost use Rattle.jam_meaning.specs.StepJobs.{job_of};
 ghost use Rattle.b2_making.specs.Answers.{AreHoused};
 ghost use Rattle.b2_making.specs.Contexts.{site_of};
-ghost use Rattle.b2_making.specs.MakingParts.{Asked, IsJoined, Does};
+ghost use Rattle.b2_making.specs.MakingParts.{Asked, IsJoined, Does, texts_of};
 ghost use Rattle.b2_making.specs.Steps.{paths_of, job, asks, runs};
 
 use crate::fault::MakingFault;
 use crate::output::Output;
 use crate::place::place_all;
+use crate::set_texts::SetTexts;
 use crate::setting::Setting;
 use crate::site::Site;
 use crate::step::{job, step_of};
@@ -59,32 +60,36 @@ fn ask<V: Evaluate>(
 fn job_of_all(
     alloc: Global,
     site: &Site<'_>,
+    props: &[Text],
     name: &Text,
     outs: &[Entry],
     ins: EntryList,
 ) -> Result<StepJob, OutOfMemory>
+    requires { props.now ≡ map property_text site.now.set.now }
     ensures { IfOk result (λ made. job_of made ≡ job (site_of site.now) name.now (paths_of outs.now) (paths_of ins)) }
 {
-    job(alloc, site, name, outs, ins.as_slice())
+    job(alloc, site, props, name, outs, ins.as_slice())
 }
 
 /// A step of this name makes outputs of inputs, which are dropped before its text is evaluated.
 pub(crate) fn run<V: Evaluate>(
     setting: &Setting<'_>,
     site: &Site<'_>,
+    texts: &SetTexts,
     name: &Text,
     ins: EntryList,
     outputs: &[Output],
     evaluator: &mut V,
     builder: &mut Builder,
 ) -> Result<EntryList, MakingFault<V::Fault>>
-    requires set { IsSet setting.now.registry.now site.now.set.now }
+    requires texts { texts.now ≡ texts_of setting.now.registry.now site.now.set.now }
     requires some { outputs.now ≢ [] }
     ensures { Does V.Evaluate (λ c s. runs c s name.now ins outputs.now) setting.now site.now evaluator.old evaluator.new builder.old builder.new result }
 {
-    let made = place_all::<V::Fault>(setting, site, outputs)?;
+    let made = place_all::<V::Fault>(setting, site, &texts.dir, outputs)?;
     let outs = made.as_slice();
-    let job = job_of_all(setting.alloc, site, name, outs, ins)?;
+    let props = texts.props.as_slice();
+    let job = job_of_all(setting.alloc, site, props, name, outs, ins)?;
     ask(setting, site, job, evaluator, builder)?;
     Ok(made)
 }

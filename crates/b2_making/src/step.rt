@@ -12,9 +12,8 @@ use b2_base::fault::OutOfMemory;
 use b2_base::path::{Path, path_of};
 use b2_base::path_list::{PathList, push_paths};
 use b2_base::text::Text;
-use b2_base::text_list::TextList;
+use b2_base::text_list::{TextList, copy_texts};
 use b2_plan::step::Step;
-use b2_props::property_texts::property_texts;
 use b2_props::props::Props;
 use b2_virtual::entry::Entry;
 use jam_meaning::step::{StepJob, StepText};
@@ -96,29 +95,31 @@ struct JobLists {
 
 fn job_lists(
     alloc: Global,
-    site: &Site<'_>,
+    props: &[Text],
     outs: &[Entry],
     ins: &[Entry],
 ) -> Result<JobLists, OutOfMemory>
-    ensures { IfOk result (λ made. made ≡ record { outs = paths_of outs.now; ins = paths_of ins.now; props = map property_text site.now.set.now }) }
+    ensures { IfOk result (λ made. made ≡ record { outs = paths_of outs.now; ins = paths_of ins.now; props = props.now }) }
 {
     let outs = paths_of(alloc, outs)?;
     let ins = paths_of(alloc, ins)?;
-    let props = property_texts(alloc, site.set.pairs())?;
+    let props = copy_texts(alloc, props)?;
     Ok(JobLists { outs, ins, props })
 }
 
-/// The job of a step of this name that makes files of others.
+/// The job of a step of this name that makes files of others, with the properties as texts.
 pub(crate) fn job(
     alloc: Global,
     site: &Site<'_>,
+    props: &[Text],
     name: &Text,
     outs: &[Entry],
     ins: &[Entry],
 ) -> Result<StepJob, OutOfMemory>
+    requires { props.now ≡ map property_text site.now.set.now }
     ensures { IfOk result (λ made. job_of made ≡ job (site_of site.now) name.now (paths_of outs.now) (paths_of ins.now)) }
 {
-    let lists = job_lists(alloc, site, outs, ins)?;
+    let lists = job_lists(alloc, props, outs, ins)?;
     let texts = job_texts(site, name)?;
     Ok(StepJob {
         name: texts.name,

@@ -18,7 +18,7 @@ run-requires g c =
     let id = c.index-ids-place.result in
     let next = given_next (GivesSome c.args.setting.now.types.now.generators) c.args.route.now.ids.now c.loop-place.place id c.loop-place-test.true c.index-ids-place.is c.loop-place.invariant.given in
     record {
-      set = c.requires.set;
+      texts = c.requires.texts;
       some =
           subst (λ (os : List Output). os ≢ [])
           (sym (outputs_at c.args.setting.now (option_copied c.args.route.now.named) c.args.route.now.spare.now c.args.route.now.ids.now c.loop-place.place id c.loop-place.entries c.as_slice.result.now c.as_slice-outs.result.now c.in_ok-outputs.outputs (option_copied c.named_at-named.result) c.first_tail-tail.result.now c.as_slice.ensures c.as_slice-outs.ensures c.in_ok-outputs.ensures c.named_at-named.ensures c.first_tail-tail.ensures))

@@ -15,6 +15,11 @@ returns-in_err-named g c =
     let (y, e, q) = err_from_is_err_and c.from_residual-in_err-named.result c.from_residual-in_err-named.ensures.1 in
     exit_first e q
 
+pub returns-in_err-texts : goal.returns-in_err-texts
+returns-in_err-texts g c =
+    let (y, e, q) = err_from_is_err_and c.from_residual-in_err-texts.result c.from_residual-in_err-texts.ensures.1 in
+    exit_first e q
+
 pub returns-in_err-entries : goal.returns-in_err-entries
 returns-in_err-entries g c =
     let (y, e, q) = err_from_is_err_and c.from_residual-in_err-entries.result c.from_residual-in_err-entries.ensures.1 in

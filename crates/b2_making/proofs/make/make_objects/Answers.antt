@@ -9,6 +9,11 @@ returns-in_err-sources g c =
     let (y, e, q) = err_from_is_err_and c.from_residual.result c.from_residual.ensures.1 in
     exit_first e q
 
+pub returns-in_err-texts : goal.returns-in_err-texts
+returns-in_err-texts g c =
+    let (y, e, q) = err_from_is_err_and c.from_residual-in_err-texts.result c.from_residual-in_err-texts.ensures.1 in
+    exit_first e q
+
 pub returns-in_err-made : goal.returns-in_err-made
 returns-in_err-made g c =
     let (y, e, q) = err_from_is_err_and c.from_residual-in_err-made.result c.from_residual-in_err-made.ensures.1 in
