@@ -7,11 +7,11 @@ use Rattle.std.proofs.lemmas.List.{flat_map_more, at_drop_more, at_drop_all, tak
 use Rattle.std.proofs.lemmas.Option.{same_Some, slice_get-get_or, get_or_from_slice_get}
 use Rattle.jam_journal.specs.Tables.{Text}
 use Rattle.jam_scope.specs.Worlds.{World}
-use Rattle.jam_engine.specs.declared.graph.Act.{Act}
+use Rattle.jam_graph.specs.declared.graph.Act.{Act}
+use Rattle.jam_graph.proofs.ListsGrow.{taken, filter_on}
 use Rattle.jam_engine.specs.Acts.{acts_at, is_quiet_in}
 use Rattle.jam_engine.specs.Spreading.{seconds_at}
 use Rattle.jam_engine.specs.Stepping.{name_in}
-use Rattle.jam_engine.proofs.ListsGrow.{taken, filter_on}
 
 pub acts_both : (all : List Act) (xs ys : List ℕ) → acts_at all (xs ++ ys) ≡ acts_at all xs ++ acts_at all ys
 acts_both all [] ys = refl

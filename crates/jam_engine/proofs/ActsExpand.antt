@@ -15,13 +15,13 @@ use Rattle.jam_meaning.specs.Rolled.{own_at, or_look, is_text, body_names}
 use Rattle.jam_effects.specs.Rolling.{or_found}
 use Rattle.jam_effects.specs.declared.fault.EvalCause.TheVariants as causes
 use Rattle.jam_effects.specs.declared.fault.EvalFault.TheVariants as evals
-use Rattle.jam_engine.specs.declared.fault.JamFault.{JamFault}
-use Rattle.jam_engine.specs.declared.fault.JamFault.TheVariants as faults
-use Rattle.jam_engine.specs.declared.graph.Act.{Act}
-use Rattle.jam_engine.specs.declared.graph.Graph.{Graph}
+use Rattle.jam_graph.specs.declared.fault.JamFault.{JamFault}
+use Rattle.jam_graph.specs.declared.fault.JamFault.TheVariants as faults
+use Rattle.jam_graph.specs.declared.graph.Act.{Act}
+use Rattle.jam_graph.specs.declared.graph.Graph.{Graph}
+use Rattle.jam_graph.specs.Loads.{Refusal, eval}
+use Rattle.jam_graph.specs.Loading.{refusal_of}
 use Rattle.jam_engine.specs.declared.scene.Scene.{Scene}
-use Rattle.jam_engine.specs.Loads.{Refusal, eval}
-use Rattle.jam_engine.specs.Loading.{refusal_of}
 use Rattle.jam_engine.specs.Scenes.{HavePaths}
 use Rattle.jam_engine.specs.Steps.{text_of, or_refused, texts_of, body_of}
 use Rattle.jam_engine.specs.Tables.{IsScene}

@@ -10,8 +10,8 @@ use Rattle.jam_journal.specs.Tables.{Text}
 use Rattle.jam_journal.specs.Scopes.{Value}
 use Rattle.jam_scope.specs.Worlds.{World}
 use Rattle.jam_natives.specs.Texts.{add_new}
-use Rattle.jam_engine.specs.declared.graph.Act.{Act}
-use Rattle.jam_engine.specs.declared.graph.Graph.{Graph}
+use Rattle.jam_graph.specs.declared.graph.Act.{Act}
+use Rattle.jam_graph.specs.declared.graph.Graph.{Graph}
 use Rattle.jam_engine.specs.declared.scene.Found.{Found}
 use Rattle.jam_engine.specs.declared.scene.Scene.{Scene}
 use Rattle.jam_engine.specs.Acts.{is_together_in, is_existing_in, are_alike, same_texts, joins, once_if, lessened, acts}

@@ -11,12 +11,12 @@ use Rattle.std.proofs.lemmas.Slice.Eq.{bytes_eq-Decides}
 use Rattle.jam_journal.specs.Tables.{Text, Names}
 use Rattle.jam_journal.specs.Scopes.{Value}
 use Rattle.jam_scope.specs.Worlds.{World}
-use Rattle.jam_engine.specs.declared.graph.Act.{Act}
+use Rattle.jam_graph.specs.declared.graph.Act.{Act}
+use Rattle.jam_graph.proofs.ListsGrow.{taken}
 use Rattle.jam_engine.specs.declared.joining.Joined.{Joined}
 use Rattle.jam_engine.specs.Acts.{is_together_in, are_alike, same_texts, joins}
 use Rattle.jam_engine.specs.Joining.{put_plainly, plainly_joined, begins, begins_with, together_at, AreJoined, is_alike_at}
 use Rattle.jam_engine.specs.Tables.{HasOneMore}
-use Rattle.jam_engine.proofs.ListsGrow.{taken}
 use Rattle.jam_engine.proofs.NumbersGrow.{no_numbers}
 
 -- ---- lists of texts

@@ -13,14 +13,14 @@ use Rattle.std.proofs.lemmas.Slice.Eq.{bytes_eq-Decides}
 use Rattle.jam_journal.specs.Tables.{Text}
 use Rattle.jam_journal.specs.Scopes.{Value}
 use Rattle.jam_scope.specs.Worlds.{World}
-use Rattle.jam_engine.specs.declared.graph.Act.{Act}
+use Rattle.jam_graph.specs.declared.graph.Act.{Act}
+use Rattle.jam_graph.proofs.ListsGrow.{taken}
 use Rattle.jam_engine.specs.declared.joining.Joined.{Joined}
 use Rattle.jam_engine.specs.Acts.{is_together_in, are_alike, same_texts}
 use Rattle.jam_engine.specs.Joining.{begins, begins_with, together_at, is_alike_at, IsFirstAlike, AreJoined}
 use Rattle.jam_engine.specs.Tables.{HasOneMore}
 use Rattle.jam_engine.proofs.ActsJoin.{texts_differ, joins_found, joins_none}
 use Rattle.jam_engine.proofs.LabelsGrow.{none_some, all_map}
-use Rattle.jam_engine.proofs.ListsGrow.{taken}
 
 -- ---- elements at their places
 

@@ -8,13 +8,13 @@ use Rattle.std.proofs.lemmas.Slice.Eq.{bytes_eq-Decides}
 use Rattle.b2_host.specs.OutsideLaws.{only_one}
 use Rattle.jam_journal.specs.Tables.{Text, Names}
 use Rattle.jam_journal.specs.Scopes.{Value}
-use Rattle.jam_engine.specs.declared.graph.Act.{Act}
-use Rattle.jam_engine.specs.declared.graph.Graph.{Graph}
+use Rattle.jam_graph.specs.declared.graph.Act.{Act}
+use Rattle.jam_graph.specs.declared.graph.Graph.{Graph}
+use Rattle.jam_graph.proofs.ListsGrow.{taken}
 use Rattle.jam_engine.specs.Acts.{is_existing}
 use Rattle.jam_engine.specs.Tables.{is_in}
 use Rattle.jam_engine.specs.Targets.{has}
 use Rattle.jam_engine.proofs.LabelsGrow.{among, none_there}
-use Rattle.jam_engine.proofs.ListsGrow.{taken}
 
 left_or : (a b : Bool) → a ≡ true → (a || b) ≡ true
 left_or true b e = refl

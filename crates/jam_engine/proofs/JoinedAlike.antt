@@ -3,7 +3,7 @@ use Rattle.std.proofs.Common.{◌≡◌, Bool, true, false, cond, ◌&&◌, List
 use Rattle.jam_journal.specs.Scopes.{Value}
 use Rattle.jam_scope.specs.Worlds.{World}
 use Rattle.jam_natives.specs.Texts.{add_new}
-use Rattle.jam_engine.specs.declared.graph.Act.{Act}
+use Rattle.jam_graph.specs.declared.graph.Act.{Act}
 use Rattle.jam_engine.specs.Acts.{is_together_in, are_alike, once_if, put, joined}
 use Rattle.jam_engine.specs.Joining.{put_plainly, plainly_joined}
 

@@ -10,10 +10,10 @@ use Rattle.std.proofs.lemmas.Slice.Eq.{bytes_eq-Decides}
 use Rattle.b2_host.specs.OutsideLaws.{only_one}
 use Rattle.jam_journal.specs.Tables.{Text}
 use Rattle.jam_journal.specs.Scopes.{Value}
-use Rattle.jam_engine.specs.declared.graph.Act.{Act}
+use Rattle.jam_graph.specs.declared.graph.Act.{Act}
+use Rattle.jam_graph.proofs.ListsGrow.{taken}
 use Rattle.jam_engine.specs.Linking.{HasLabel, HasNone, NamesTarget, LabelsMore, waiting}
 use Rattle.jam_engine.specs.Tables.{times, acting}
-use Rattle.jam_engine.proofs.ListsGrow.{taken}
 
 -- ---- lists
 

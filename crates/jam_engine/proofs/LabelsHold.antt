@@ -9,14 +9,14 @@ use Rattle.std.proofs.lemmas.Option.{slice_get_within, slice_get-get_or, get_or_
 use Rattle.b2_host.specs.OutsideLaws.{only_one}
 use Rattle.jam_journal.specs.Tables.{Text, Names}
 use Rattle.jam_journal.specs.Scopes.{Value}
-use Rattle.jam_engine.specs.declared.graph.Act.{Act}
+use Rattle.jam_graph.specs.declared.graph.Act.{Act}
+use Rattle.jam_graph.proofs.ListsGrow.{taken}
 use Rattle.jam_engine.specs.declared.links.Links.{Links}
 use Rattle.jam_engine.specs.Linking.{HasLabel, HasNone, IsNamedUnder, LabelsMore, waiting, AreLabels, IsSearch, AreFirsts, AreSetsOf, AddsTo}
 use Rattle.jam_engine.specs.Tables.{acting, is_in}
 use Rattle.jam_engine.proofs.AlikeFound.{at_get}
 use Rattle.jam_engine.proofs.LabelsGrow.{none_some, acting_within}
 use Rattle.jam_engine.proofs.LinksOpen.{firsts_found, search_begins, open_new}
-use Rattle.jam_engine.proofs.ListsGrow.{taken}
 use Rattle.jam_engine.proofs.SetsOfLabels.{begins_set, joins_set}
 
 -- ---- elements at their places

@@ -1,14 +1,11 @@
-pub mod CallsGoThrough
 pub mod SetsGrow
 pub mod NumbersGrow
 pub mod SecondsByPlaces
 pub mod JoinedAlike
 pub mod MetOnce
 pub mod Spreading
-pub mod LinesAreAdded
-pub mod FilesLoad
+pub mod PlanRefusalsAreWhole
 pub mod SpreadGoesOn
-pub mod ListsGrow
 pub mod LabelsGrow
 pub mod LinksOpen
 pub mod SetsOfLabels

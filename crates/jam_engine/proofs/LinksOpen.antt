@@ -10,7 +10,7 @@ use Rattle.std.proofs.lemmas.List.Elements.{Contains-append_left, Contains-appen
 use Rattle.std.proofs.lemmas.Slice.Eq.{bytes_eq-Decides}
 use Rattle.b2_host.specs.OutsideLaws.{only_one}
 use Rattle.jam_journal.specs.Tables.{Text, Names}
-use Rattle.jam_engine.specs.declared.graph.Act.{Act}
+use Rattle.jam_graph.specs.declared.graph.Act.{Act}
 use Rattle.jam_engine.specs.declared.links.Links.{Links}
 use Rattle.jam_engine.specs.Acts.{Linked, self, next}
 use Rattle.jam_engine.specs.Linking.{HasLabel, HasNone, NamesTarget, IsNamedUnder, AreRight, AreLabels, IsSearch, LabelsMore, AreFirsts, waiting}

@@ -11,7 +11,7 @@ use Rattle.std.proofs.lemmas.Option.{slice_get-get_or, get_or_from_slice_get}
 use Rattle.std.proofs.lemmas.Slice.Eq.{bytes_eq-Decides}
 use Rattle.jam_journal.specs.Tables.{Text, Names}
 use Rattle.jam_journal.specs.Scopes.{Value}
-use Rattle.jam_engine.specs.declared.graph.Graph.{Graph}
+use Rattle.jam_graph.specs.declared.graph.Graph.{Graph}
 use Rattle.jam_engine.specs.Laws.{Reaches, self, on, EachMeets, MetIsReached, ReachedIsMet, EachIsMetOnce}
 use Rattle.jam_engine.specs.Spreading.{MeetsOne}
 use Rattle.jam_engine.specs.Spreads.{next, Meets, none, again, first}

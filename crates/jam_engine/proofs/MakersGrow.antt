@@ -8,11 +8,11 @@ use Rattle.std.proofs.lemmas.Bool.{true≢false}
 use Rattle.std.proofs.lemmas.Option.{same_Some, slice_get_within, slice_get-get_or}
 use Rattle.jam_journal.specs.Tables.{Text, Names}
 use Rattle.jam_journal.specs.Scopes.{Value}
-use Rattle.jam_engine.specs.declared.graph.Act.{Act}
+use Rattle.jam_graph.specs.declared.graph.Act.{Act}
+use Rattle.jam_graph.proofs.ListsGrow.{taken}
 use Rattle.jam_engine.specs.declared.links.Links.{Links}
 use Rattle.jam_engine.specs.Linking.{HasLabel, HaveOneMore, AreLabels}
 use Rattle.jam_engine.specs.Tables.{HasOneMore, times, acting}
-use Rattle.jam_engine.proofs.ListsGrow.{taken}
 use Rattle.jam_engine.proofs.SetsGrow.{none_in}
 use Rattle.jam_engine.proofs.LabelsGrow.{none_some}
 

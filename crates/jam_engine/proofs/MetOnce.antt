@@ -1,11 +1,11 @@
 -- What a list meets is one list.
 use Rattle.std.proofs.Common.{◌≡◌, ◌∷◌, ◌++◌, refl, sym, ◌∙◌, ap, ap₂, subst}
+use Rattle.std.specs.Prelude.{filter, Bool}
 use Rattle.std.proofs.lemmas.Bool.{true≢false}
 use Rattle.jam_journal.specs.Tables.{Text}
 use Rattle.jam_journal.specs.Scopes.{Value}
-use Rattle.jam_engine.specs.declared.graph.Graph.{Graph}
+use Rattle.jam_graph.specs.declared.graph.Graph.{Graph}
 use Rattle.jam_engine.specs.Spreads.{Meets, none, again, first, counts, Spreads}
-use Rattle.std.specs.Prelude.{filter, Bool}
 
 pub met_once : (g : Graph) (seen list a b : Value) → Meets g seen list a → Meets g seen list b → a ≡ b
 met_once g seen list a b none none = refl

@@ -4,12 +4,12 @@ use Rattle.std.specs.Prelude.{unwrap_or}
 use Rattle.std.specs.Cmp.Lexicographic.{nat_list_cmp_total}
 use Rattle.std.specs.FinMap.{get, insert, from_entries, get-insert, get-from_entries}
 use Rattle.std.specs.Str.{bytes_eq}
+use Rattle.std.proofs.lemmas.List.{append-nil, length-take-le}
 use Rattle.std.proofs.lemmas.Map.Text.{is_eq-slice_cmp}
 use Rattle.std.proofs.lemmas.Slice.Eq.{bytes_eq-Decides}
 use Rattle.jam_journal.specs.Tables.{Text, Names}
+use Rattle.jam_graph.proofs.ListsGrow.{taken}
 use Rattle.jam_engine.specs.Tables.{places_in, HasOneMore}
-use Rattle.jam_engine.proofs.ListsGrow.{taken}
-use Rattle.std.proofs.lemmas.List.{append-nil, length-take-le}
 
 abbrev numbers : Names (List ℕ) → Text → List ℕ
 numbers m text = unwrap_or (get m text) []

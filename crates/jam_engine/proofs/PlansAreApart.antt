@@ -6,6 +6,7 @@ use Rattle.std.specs.Cmp.{booleans_Decides}
 use Rattle.std.specs.List.{Contains, AllByRecursion, flat_map, list_all}
 use Rattle.std.specs.Str.{bytes_eq}
 use Rattle.std.proofs.lemmas.Bool.{true≢false, false≢true, cases_lt, and_parts, not-true, cond-true, cond-false}
+use Rattle.std.proofs.lemmas.List.{take-append-le, take_all}
 use Rattle.std.proofs.lemmas.Option.{same_Some, slice_get_within}
 use Rattle.std.proofs.lemmas.Slice.Eq.{bytes_eq-Decides}
 use Rattle.b2_base.specs.Below.{after_parts, goes_below, is_below}
@@ -20,12 +21,12 @@ use Rattle.jam_journal.specs.Tables.{Text}
 use Rattle.jam_journal.specs.Scopes.{Value}
 use Rattle.jam_natives.specs.Texts.{add_new}
 use Rattle.jam_scope.specs.Worlds.{World}
-use Rattle.jam_engine.specs.declared.graph.Act.{Act}
-use Rattle.jam_engine.specs.declared.graph.Graph.{Graph}
+use Rattle.jam_graph.specs.declared.graph.Act.{Act}
+use Rattle.jam_graph.specs.declared.graph.Graph.{Graph}
+use Rattle.jam_graph.specs.Graphs.{IsReady, HasTarget}
+use Rattle.jam_graph.specs.Loads.{Refusal}
 use Rattle.jam_engine.specs.Acts.{joins, put, joined, is_existing, lessened, acts, acts_at, Linked, IsSet}
-use Rattle.jam_engine.specs.Graphs.{IsReady, HasTarget}
 use Rattle.jam_engine.specs.Laws.{PlanIsApart}
-use Rattle.jam_engine.specs.Loads.{Refusal}
 use Rattle.jam_engine.specs.Plans.{Target, Joins, all, stops, goes_on, Steps}
 use Rattle.jam_engine.specs.Steps.{places, targets_of, outs_of, IsStep, are_in_roots}
 use Rattle.jam_engine.specs.Targets.{is_in_roots, is_below_roots, is_there, place, roots}
@@ -83,15 +84,6 @@ list_all_at p (y ∷ xs) x e c = go (and_parts (p y) (list_all p xs) e) (among y
 
 -- ---- steps that fit beside those before them
 
-take_front : {X : Type 0} (xs ys : List X) (i : ℕ) → i ≤ length xs → take i (xs ++ ys) ≡ take i xs
-take_front xs ys zero low = refl
-take_front [] ys (suc i) low = absurd (omega (arith, low))
-take_front (x ∷ xs) ys (suc i) low = ap (λ l. x ∷ l) (take_front xs ys i (omega (arith, low)))
-
-take_whole : {X : Type 0} (xs : List X) → take (length xs) xs ≡ xs
-take_whole [] = refl
-take_whole (x ∷ xs) = ap (λ l. x ∷ l) (take_whole xs)
-
 get_before : {X : Type 0} (xs : List X) (i k : ℕ) → i < k → slice_get (take k xs) i ≡ slice_get xs i
 get_before xs i zero low = absurd (omega (arith, low))
 get_before [] i (suc k) low = refl
@@ -107,9 +99,9 @@ fit_more steps step h fits i other e = go (get_more steps step i other e)
     go : (slice_get steps i ≡ Some other) ⊎ ((i ≡ length steps) × (step ≡ other)) → Fits (take i (steps ++ step ∷ [])) other
     go (inl before) =
         let low = slice_get_within steps i other before in
-        subst (λ (l : List Step). Fits l other) (sym (take_front steps (step ∷ []) i (omega (arith, low)))) (h i other before)
+        subst (λ (l : List Step). Fits l other) (sym (take-append-le i steps (step ∷ []) (omega (arith, low)))) (h i other before)
     go (inr (last, same)) =
-        let whole : take i (steps ++ step ∷ []) ≡ steps = ap (λ n. take n (steps ++ step ∷ [])) last ∙ take_front steps (step ∷ []) (length steps) (omega arith) ∙ take_whole steps in
+        let whole : take i (steps ++ step ∷ []) ≡ steps = ap (λ n. take n (steps ++ step ∷ [])) last ∙ take-append-le (length steps) steps (step ∷ []) (omega arith) ∙ take_all (length steps) steps (omega arith) in
         subst (λ (l : List Step). Fits l other) (sym whole) (subst (Fits steps) same fits)
 
 module _ (steps : List Step) (fit : FitBefore steps) where

@@ -9,11 +9,11 @@ use Rattle.b2_virtual.specs.Clashes.{IsFirstClash}
 use Rattle.b2_virtual.proofs.JoinedStepsKeepTheirNumbers.{one_clash, fitting_none}
 use Rattle.jam_journal.specs.Tables.{Text}
 use Rattle.jam_journal.specs.Scopes.{Value}
-use Rattle.jam_engine.specs.declared.graph.Act.{Act}
-use Rattle.jam_engine.specs.declared.graph.Graph.{Graph}
+use Rattle.jam_graph.specs.declared.graph.Act.{Act}
+use Rattle.jam_graph.specs.declared.graph.Graph.{Graph}
+use Rattle.jam_graph.specs.Loads.{Refusal, mixed, outside, clash, no_target}
 use Rattle.jam_engine.specs.Acts.{acts, acts_at, Share, Linked, self, next, IsSet, AreSets}
 use Rattle.jam_engine.specs.Laws.{OnePlan}
-use Rattle.jam_engine.specs.Loads.{Refusal, mixed, outside, clash, no_target}
 use Rattle.jam_engine.specs.Plans.{Target, Joins, all, stops, goes_on, Steps, PlansTo, is_unknown, is_refused, is_planned}
 use Rattle.jam_engine.specs.Steps.{outs_of, whole_text, IsStep, Refuses, is_full, is_mixed, no_text, lies_outside, clashes, Accepts}
 use Rattle.jam_engine.specs.Targets.{is_in_roots, place, roots}

@@ -13,12 +13,12 @@ use Rattle.b2_plan.specs.Plans.{step_at}
 use Rattle.jam_journal.specs.Tables.{Text}
 use Rattle.jam_journal.specs.Scopes.{Value}
 use Rattle.jam_natives.specs.Texts.{add_new, without_repeats}
-use Rattle.jam_engine.specs.declared.graph.Act.{Act}
-use Rattle.jam_engine.specs.declared.graph.Graph.{Graph}
+use Rattle.jam_graph.specs.declared.graph.Act.{Act}
+use Rattle.jam_graph.specs.declared.graph.Graph.{Graph}
+use Rattle.jam_graph.specs.Graphs.{texts_in, everything}
+use Rattle.jam_graph.specs.Loads.{Refusal}
 use Rattle.jam_engine.specs.Acts.{acts, acts_at}
-use Rattle.jam_engine.specs.Graphs.{texts_in, everything}
 use Rattle.jam_engine.specs.Laws.{AllIsFirst, HasText, RequestedIsWanted, EachActIsInAStep}
-use Rattle.jam_engine.specs.Loads.{Refusal}
 use Rattle.jam_engine.specs.Plans.{Target, Joins, all, stops, goes_on, Steps, PlansTo, is_unknown, is_refused, is_planned}
 use Rattle.jam_engine.specs.Spreads.{counts, Spreads}
 use Rattle.jam_engine.specs.Steps.{places, targets_of, text_of, or_refused, texts_of, in_parens, and_so_on, whole_text, IsStep}

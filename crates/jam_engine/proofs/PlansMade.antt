@@ -12,14 +12,14 @@ use Rattle.b2_virtual.specs.Clashes.{AreInRoots}
 use Rattle.jam_journal.specs.Tables.{Text}
 use Rattle.jam_journal.specs.Scopes.{Value}
 use Rattle.jam_scope.specs.Texts.{first_roots}
-use Rattle.jam_engine.specs.declared.fault.JamFault.{JamFault}
-use Rattle.jam_engine.specs.declared.fault.JamFault.TheVariants as faults
-use Rattle.jam_engine.specs.declared.graph.Act.{Act}
-use Rattle.jam_engine.specs.declared.graph.Graph.{Graph}
+use Rattle.jam_graph.specs.declared.fault.JamFault.{JamFault}
+use Rattle.jam_graph.specs.declared.fault.JamFault.TheVariants as faults
+use Rattle.jam_graph.specs.declared.graph.Act.{Act}
+use Rattle.jam_graph.specs.declared.graph.Graph.{Graph}
+use Rattle.jam_graph.specs.Loads.{Refusal}
+use Rattle.jam_graph.specs.Loading.{refusal_of}
 use Rattle.jam_engine.specs.declared.index.Index.{Index}
 use Rattle.jam_engine.specs.Acts.{acts, acts_at, Linked, self, next, IsSet, AreSets}
-use Rattle.jam_engine.specs.Loads.{Refusal}
-use Rattle.jam_engine.specs.Loading.{refusal_of}
 use Rattle.jam_engine.specs.Planning.{target_of, IsRefusedTo, IsPlannedOf, HasNoTarget}
 use Rattle.jam_engine.specs.Plans.{unknown, Target, Joins, Steps, PlansTo, is_unknown, is_refused, is_planned}
 use Rattle.jam_engine.specs.Spreading.{SpreadsTo}

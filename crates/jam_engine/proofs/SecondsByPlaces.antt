@@ -6,11 +6,11 @@ use Rattle.std.specs.List.{cons_option, slice_get, AllByRecursion}
 use Rattle.std.specs.Option.{option_map}
 use Rattle.std.specs.Str.{bytes_eq}
 use Rattle.jam_journal.specs.Tables.{Text}
-use Rattle.jam_engine.specs.declared.graph.Graph.{Graph}
+use Rattle.jam_graph.specs.declared.graph.Graph.{Graph}
+use Rattle.jam_graph.proofs.ListsGrow.{filter_both}
 use Rattle.jam_engine.specs.Targets.{seconds, is_acted, depends_of}
 use Rattle.jam_engine.specs.Spreads.{behind}
 use Rattle.jam_engine.proofs.LabelsGrow.{all_map}
-use Rattle.jam_engine.proofs.ListsGrow.{filter_both}
 use Rattle.jam_engine.specs.Tables.{places_in}
 use Rattle.jam_engine.specs.Spreading.{seconds_at}
 

@@ -7,9 +7,9 @@ use Rattle.std.proofs.lemmas.List.{map-append}
 use Rattle.std.proofs.lemmas.List.Elements.{recursion_from_All}
 use Rattle.b2_base.proofs.NormalMakesNormalForms.{all_reverse}
 use Rattle.jam_journal.specs.Tables.{Text}
+use Rattle.jam_graph.proofs.ListsGrow.{filter_both}
 use Rattle.jam_engine.specs.Spreading.{stacked, seconds_at}
 use Rattle.jam_engine.proofs.AlikeFound.{at_get, at_place}
-use Rattle.jam_engine.proofs.ListsGrow.{filter_both}
 use Rattle.jam_engine.proofs.SpreadGoesOn.{stacked_last}
 
 abbrev lent : List (Bor ℕ) → List ℕ

@@ -7,7 +7,7 @@ use Rattle.std.proofs.lemmas.Bool.{eqb-true, eqb-false, cases_lt}
 use Rattle.std.proofs.lemmas.Option.{same_Some, slice_get_within, slice_get-get_or, get_or_from_slice_get}
 use Rattle.std.proofs.lemmas.List.Elements.{Contains-append_left, Contains-append_right}
 use Rattle.std.proofs.lemmas.List.Quantifiers.{all_pairs_push}
-use Rattle.jam_engine.specs.declared.graph.Act.{Act}
+use Rattle.jam_graph.specs.declared.graph.Act.{Act}
 use Rattle.jam_engine.specs.Acts.{Linked, IsSet, AreSets}
 use Rattle.jam_engine.specs.Linking.{HasLabel, IsLabelSet, AreSetsOf, AddsTo, AreFirsts}
 use Rattle.jam_engine.proofs.LabelsGrow.{none_some, set_here, set_there, set_length, all_map, all_both, all_at, at_front, one_label}

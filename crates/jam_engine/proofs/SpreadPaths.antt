@@ -4,7 +4,8 @@ use Rattle.std.specs.FinMap.{get}
 use Rattle.std.proofs.lemmas.Bool.{true≢false}
 use Rattle.jam_journal.specs.Tables.{Text}
 use Rattle.jam_journal.specs.Scopes.{Value}
-use Rattle.jam_engine.specs.declared.graph.Graph.{Graph}
+use Rattle.jam_graph.specs.declared.graph.Graph.{Graph}
+use Rattle.jam_graph.proofs.ListsGrow.{taken}
 use Rattle.jam_engine.specs.declared.scene.Found.{Found}
 use Rattle.jam_engine.specs.declared.scene.Scene.{Scene}
 use Rattle.jam_engine.specs.Scenes.{stands_by, stands_in, counts_in, IsKnown, HasPath}
@@ -12,7 +13,6 @@ use Rattle.jam_engine.specs.Spreading.{SpreadsTo}
 use Rattle.jam_engine.specs.Spreads.{Meets, counts}
 use Rattle.jam_engine.specs.Tables.{is_in, IsScene}
 use Rattle.jam_engine.specs.Targets.{is_acted, is_notfile, is_nocare, is_source, place}
-use Rattle.jam_engine.proofs.ListsGrow.{taken}
 
 module _ (g : Graph) (stands : Text → Bool) (scene : Scene) (h : IsScene g stands scene) where
   -- a target that may be missing was looked at

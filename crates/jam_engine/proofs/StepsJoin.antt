@@ -9,13 +9,13 @@ use Rattle.b2_virtual.proofs.JoinedStepsKeepTheirNumbers.{found, absent}
 use Rattle.jam_journal.specs.Tables.{Text}
 use Rattle.jam_journal.specs.Scopes.{Value}
 use Rattle.jam_natives.specs.Texts.{without_repeats}
-use Rattle.jam_engine.specs.declared.fault.JamFault.{JamFault}
-use Rattle.jam_engine.specs.declared.fault.JamFault.TheVariants as faults
-use Rattle.jam_engine.specs.declared.graph.Act.{Act}
-use Rattle.jam_engine.specs.declared.graph.Graph.{Graph}
+use Rattle.jam_graph.specs.declared.fault.JamFault.{JamFault}
+use Rattle.jam_graph.specs.declared.fault.JamFault.TheVariants as faults
+use Rattle.jam_graph.specs.declared.graph.Act.{Act}
+use Rattle.jam_graph.specs.declared.graph.Graph.{Graph}
+use Rattle.jam_graph.specs.Loads.{Refusal}
+use Rattle.jam_graph.specs.Loading.{refusal_of}
 use Rattle.jam_engine.specs.declared.scene.Scene.{Scene}
-use Rattle.jam_engine.specs.Loads.{Refusal}
-use Rattle.jam_engine.specs.Loading.{refusal_of}
 use Rattle.jam_engine.specs.Plans.{Joins, all, stops, goes_on}
 use Rattle.jam_engine.specs.Spreads.{Spreads}
 use Rattle.jam_engine.specs.Steps.{most_steps, places, targets_of, outs_of, first_mixed, texts_of, whole_text, dirs_by, is_mixed, no_text, lies_outside, clashes}

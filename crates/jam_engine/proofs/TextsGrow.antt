@@ -2,8 +2,8 @@
 use Rattle.std.proofs.Common.{◌≡◌, ℕ, ◌+◌, ◌<◌, List, [], ◌∷◌, ◌++◌, length, get_or, take, sym, ap, ◌∙◌, append_assoc, append-nil}
 use Rattle.std.specs.Prelude.{codes}
 use Rattle.jam_journal.specs.Tables.{Text}
+use Rattle.jam_graph.proofs.ListsGrow.{taken}
 use Rattle.jam_engine.specs.Steps.{in_parens, and_so_on}
-use Rattle.jam_engine.proofs.ListsGrow.{taken}
 
 -- a text in parentheses, by its pieces
 pub parens_pushed : (old a b c text : Text) → a ≡ old ++ codes "(\n" → b ≡ a ++ text → c ≡ b ++ codes "\n)" → c ≡ old ++ in_parens text

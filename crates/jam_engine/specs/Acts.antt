@@ -9,8 +9,8 @@ use Rattle.jam_journal.specs.Scopes.{Value}
 use Rattle.jam_scope.specs.Rules.{Actions}
 use Rattle.jam_scope.specs.Worlds.{World}
 use Rattle.jam_natives.specs.Texts.{add_new, without_repeats}
-use Rattle.jam_engine.specs.declared.graph.Act.{Act}
-use Rattle.jam_engine.specs.declared.graph.Graph.{Graph}
+use Rattle.jam_graph.specs.declared.graph.Act.{Act}
+use Rattle.jam_graph.specs.declared.graph.Graph.{Graph}
 use Rattle.jam_engine.specs.Targets.{is_there}
 
 -- two lists of texts are the same
@@ -45,7 +45,7 @@ module _ (w : World) where
   abbrev pub joins : Act → Act → Bool
   joins a b = is_together_in a && are_alike a b
 
-  -- an act joins the first that it joins, with its sources behind; else it stands at the end; sources stand once
+  -- An act joins the first that it joins, with its sources behind; else it stands at the end. With `together` sources stand once.
   abbrev pub put : List Act → Act → List Act
   put [] a = record a { sources = once_if (is_together_in a) a.sources } ∷ []
   put (first ∷ more) a = if joins first a then record first { sources = fold add_new first.sources a.sources } ∷ more else first ∷ put more a

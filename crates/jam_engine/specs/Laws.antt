@@ -6,11 +6,11 @@ use Rattle.b2_plan.specs.Plans.{step_at, Apart}
 use Rattle.jam_journal.specs.Tables.{Text}
 use Rattle.jam_journal.specs.Scopes.{Value}
 use Rattle.jam_scope.specs.Worlds.{Worlds}
-use Rattle.jam_engine.specs.declared.said.Said.{Said}
-use Rattle.jam_engine.specs.declared.graph.Act.{Act}
-use Rattle.jam_engine.specs.declared.graph.Graph.{Graph}
-use Rattle.jam_engine.specs.Graphs.{graph_of, IsReady, everything}
-use Rattle.jam_engine.specs.Loads.{Refusal}
+use Rattle.jam_graph.specs.declared.said.Said.{Said}
+use Rattle.jam_graph.specs.declared.graph.Act.{Act}
+use Rattle.jam_graph.specs.declared.graph.Graph.{Graph}
+use Rattle.jam_graph.specs.Graphs.{graph_of, IsReady, everything}
+use Rattle.jam_graph.specs.Loads.{Refusal}
 use Rattle.jam_engine.specs.Targets.{is_acted, place}
 use Rattle.jam_engine.specs.Acts.{acts}
 use Rattle.jam_engine.specs.Spreads.{next, Meets}

@@ -4,7 +4,7 @@ use Rattle.std.specs.FinMap as map
 use Rattle.std.specs.List.{Contains, AllByRecursion, AllPairs}
 use Rattle.jam_journal.specs.Tables.{Text, Names}
 use Rattle.jam_journal.specs.Scopes.{Value}
-use Rattle.jam_engine.specs.declared.graph.Act.{Act}
+use Rattle.jam_graph.specs.declared.graph.Act.{Act}
 use Rattle.jam_engine.specs.declared.links.Links.{Links}
 use Rattle.jam_engine.specs.Acts.{Linked}
 use Rattle.jam_engine.specs.Tables.{acting, is_in, HasOneMore}

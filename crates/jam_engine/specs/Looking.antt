@@ -2,9 +2,9 @@
 use Rattle.std.specs.Prelude.{◌≡◌, Bool, true, Result, Ok, Err}
 use Rattle.b2_host.specs.Outside.{Outside, Fails}
 use Rattle.jam_journal.specs.Tables.{Text, Names}
-use Rattle.jam_engine.specs.declared.fault.JamFault.{JamFault}
-use Rattle.jam_engine.specs.declared.fault.JamFault.TheVariants as faults
-use Rattle.jam_engine.specs.declared.graph.Graph.{Graph}
+use Rattle.jam_graph.specs.declared.fault.JamFault.{JamFault}
+use Rattle.jam_graph.specs.declared.fault.JamFault.TheVariants as faults
+use Rattle.jam_graph.specs.declared.graph.Graph.{Graph}
 use Rattle.jam_engine.specs.declared.scene.Scene.{Scene}
 use Rattle.jam_engine.specs.Tables.{is_in, Asks, Sees, IsScene}
 

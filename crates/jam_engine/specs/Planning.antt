@@ -4,12 +4,12 @@ use Rattle.b2_host.specs.Disks.{Disk}
 use Rattle.b2_plan.specs.declared.plan.Plan.{Plan}
 use Rattle.jam_journal.specs.Tables.{Text}
 use Rattle.jam_journal.specs.Scopes.{Value}
-use Rattle.jam_engine.specs.declared.fault.JamFault.{JamFault}
-use Rattle.jam_engine.specs.declared.fault.JamFault.TheVariants as faults
-use Rattle.jam_engine.specs.declared.graph.Graph.{Graph}
+use Rattle.jam_graph.specs.declared.fault.JamFault.{JamFault}
+use Rattle.jam_graph.specs.declared.fault.JamFault.TheVariants as faults
+use Rattle.jam_graph.specs.declared.graph.Graph.{Graph}
+use Rattle.jam_graph.specs.Loads.{Refusal}
+use Rattle.jam_graph.specs.Loading.{refusal_of}
 use Rattle.jam_engine.specs.declared.index.Index.{Index}
-use Rattle.jam_engine.specs.Loads.{Refusal}
-use Rattle.jam_engine.specs.Loading.{refusal_of}
 use Rattle.jam_engine.specs.Tables.{Sees}
 use Rattle.jam_engine.specs.Plans.{requested, unknown, Target, PlansTo}
 

@@ -4,10 +4,10 @@ use Rattle.std.specs.List.{find}
 use Rattle.b2_plan.specs.declared.step.Step.{Step}
 use Rattle.jam_journal.specs.Tables.{Text}
 use Rattle.jam_journal.specs.Scopes.{Value}
-use Rattle.jam_engine.specs.declared.graph.Act.{Act}
-use Rattle.jam_engine.specs.declared.graph.Graph.{Graph}
-use Rattle.jam_engine.specs.Graphs.{everything}
-use Rattle.jam_engine.specs.Loads.{Refusal, no_target}
+use Rattle.jam_graph.specs.declared.graph.Act.{Act}
+use Rattle.jam_graph.specs.declared.graph.Graph.{Graph}
+use Rattle.jam_graph.specs.Graphs.{everything}
+use Rattle.jam_graph.specs.Loads.{Refusal, no_target}
 use Rattle.jam_engine.specs.Targets.{is_target, roots, place}
 use Rattle.jam_engine.specs.Acts.{acts, acts_at, AreSets}
 use Rattle.jam_engine.specs.Spreads.{Spreads}

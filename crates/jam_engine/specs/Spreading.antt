@@ -6,7 +6,7 @@ use Rattle.std.specs.List.{filter_map}
 use Rattle.std.specs.Option.{option_map}
 use Rattle.jam_journal.specs.Tables.{Text, Names}
 use Rattle.jam_journal.specs.Scopes.{Value}
-use Rattle.jam_engine.specs.declared.graph.Graph.{Graph}
+use Rattle.jam_graph.specs.declared.graph.Graph.{Graph}
 use Rattle.jam_engine.specs.Targets.{place}
 use Rattle.jam_engine.specs.Tables.{is_in}
 use Rattle.jam_engine.specs.Spreads.{next, Spreads}

@@ -2,7 +2,7 @@
 use Rattle.std.specs.Prelude.{◌≡◌, Bool, true, false, not, ◌||◌, ◌&&◌, [], ◌∷◌, ◌++◌, filter, if◌then◌else◌}
 use Rattle.jam_journal.specs.Tables.{Text}
 use Rattle.jam_journal.specs.Scopes.{Value}
-use Rattle.jam_engine.specs.declared.graph.Graph.{Graph}
+use Rattle.jam_graph.specs.declared.graph.Graph.{Graph}
 use Rattle.jam_engine.specs.Targets.{has, is_acted, is_notfile, is_nocare, includes_of, depends_of, is_source, place}
 
 module _ (g : Graph) where

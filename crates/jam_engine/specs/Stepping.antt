@@ -9,14 +9,14 @@ use Rattle.jam_journal.specs.Tables.{Text}
 use Rattle.jam_journal.specs.Scopes.{Value}
 use Rattle.jam_scope.specs.Worlds.{World}
 use Rattle.jam_natives.specs.Texts.{without_repeats}
-use Rattle.jam_engine.specs.declared.fault.JamFault.{JamFault}
-use Rattle.jam_engine.specs.declared.fault.JamFault.TheVariants as faults
-use Rattle.jam_engine.specs.declared.graph.Act.{Act}
-use Rattle.jam_engine.specs.declared.graph.Graph.{Graph}
+use Rattle.jam_graph.specs.declared.fault.JamFault.{JamFault}
+use Rattle.jam_graph.specs.declared.fault.JamFault.TheVariants as faults
+use Rattle.jam_graph.specs.declared.graph.Act.{Act}
+use Rattle.jam_graph.specs.declared.graph.Graph.{Graph}
+use Rattle.jam_graph.specs.Loads.{Refusal}
+use Rattle.jam_graph.specs.Loading.{refusal_of}
 use Rattle.jam_engine.specs.declared.scene.Scene.{Scene}
 use Rattle.jam_engine.specs.Acts.{is_quiet_in}
-use Rattle.jam_engine.specs.Loads.{Refusal}
-use Rattle.jam_engine.specs.Loading.{refusal_of}
 use Rattle.jam_engine.specs.Tables.{is_in, IsScene}
 use Rattle.jam_engine.specs.Targets.{header_dirs_in, place, depends_of}
 use Rattle.jam_engine.specs.Spreading.{SpreadsTo}

@@ -13,9 +13,9 @@ use Rattle.jam_scope.specs.Rules.{Actions}
 use Rattle.jam_meaning.specs.Faults.{expand}
 use Rattle.jam_meaning.specs.Rolled.{body_names}
 use Rattle.jam_natives.specs.Texts.{without_repeats}
-use Rattle.jam_engine.specs.declared.graph.Act.{Act}
-use Rattle.jam_engine.specs.declared.graph.Graph.{Graph}
-use Rattle.jam_engine.specs.Loads.{Refusal, too_many, mixed, eval, outside, clash}
+use Rattle.jam_graph.specs.declared.graph.Act.{Act}
+use Rattle.jam_graph.specs.declared.graph.Graph.{Graph}
+use Rattle.jam_graph.specs.Loads.{Refusal, too_many, mixed, eval, outside, clash}
 use Rattle.jam_engine.specs.Targets.{is_always, is_notfile, depends_of, is_in_roots, place, header_dirs}
 use Rattle.jam_engine.specs.Acts.{actions_of, is_quiet}
 use Rattle.jam_engine.specs.Spreads.{Spreads}

@@ -6,8 +6,8 @@ use Rattle.std.specs.Str.{bytes_eq}
 use Rattle.b2_host.specs.Disks.{Disk}
 use Rattle.jam_journal.specs.Tables.{Text, Names}
 use Rattle.jam_journal.specs.Scopes.{Value}
-use Rattle.jam_engine.specs.declared.graph.Act.{Act}
-use Rattle.jam_engine.specs.declared.graph.Graph.{Graph}
+use Rattle.jam_graph.specs.declared.graph.Act.{Act}
+use Rattle.jam_graph.specs.declared.graph.Graph.{Graph}
 use Rattle.jam_engine.specs.declared.index.Index.{Index}
 use Rattle.jam_engine.specs.declared.scene.Found.{Found}
 use Rattle.jam_engine.specs.declared.scene.Scene.{Scene}

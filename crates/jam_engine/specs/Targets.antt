@@ -11,8 +11,8 @@ use Rattle.jam_journal.specs.Tables.{Text}
 use Rattle.jam_journal.specs.Scopes.{Value, look_in}
 use Rattle.jam_scope.specs.Texts.{first_roots}
 use Rattle.jam_scope.specs.Worlds.{World}
-use Rattle.jam_engine.specs.declared.graph.Act.{Act}
-use Rattle.jam_engine.specs.declared.graph.Graph.{Graph}
+use Rattle.jam_graph.specs.declared.graph.Act.{Act}
+use Rattle.jam_graph.specs.declared.graph.Graph.{Graph}
 
 abbrev pub has : Value → Text → Bool
 has texts text = list_any (bytes_eq text) texts

@@ -12,14 +12,14 @@ use Rattle.jam_scope.specs.Worlds.{World}
 use Rattle.jam_meaning.specs.Faults.{expand}
 use Rattle.jam_meaning.specs.Rolled.{is_text, own_at}
 use Rattle.jam_effects.specs.Rolling.{or_found}
-use Rattle.jam_engine.specs.declared.fault.JamFault.{JamFault}
-use Rattle.jam_engine.specs.declared.fault.JamFault.TheVariants as faults
-use Rattle.jam_engine.specs.declared.graph.Act.{Act}
-use Rattle.jam_engine.specs.declared.graph.Graph.{Graph}
+use Rattle.jam_graph.specs.declared.fault.JamFault.{JamFault}
+use Rattle.jam_graph.specs.declared.fault.JamFault.TheVariants as faults
+use Rattle.jam_graph.specs.declared.graph.Act.{Act}
+use Rattle.jam_graph.specs.declared.graph.Graph.{Graph}
+use Rattle.jam_graph.specs.Loads.{Refusal, eval}
+use Rattle.jam_graph.specs.Loading.{refusal_of}
 use Rattle.jam_engine.specs.declared.scene.Scene.{Scene}
 use Rattle.jam_engine.specs.Acts.{actions_in}
-use Rattle.jam_engine.specs.Loads.{Refusal, eval}
-use Rattle.jam_engine.specs.Loading.{refusal_of}
 use Rattle.jam_engine.specs.Tables.{IsScene}
 use Rattle.jam_engine.specs.Targets.{place}
 use Rattle.jam_engine.specs.Steps.{text_of, or_refused, texts_of}

@@ -5,11 +5,11 @@ ghost use Rattle.std.specs.FinMap as map;
 ghost use Rattle.jam_engine.specs.Tables.{places_in, is_in, IsIndexOf, HasOneMore};
 ghost use Rattle.jam_engine.specs.Targets.{has};
 
-use crate::graph::{Act, Graph};
 use b2_base::fault::OutOfMemory;
 use b2_base::list::List;
 use b2_base::text::Text;
 use b2_base::text_map::TextMap;
+use jam_graph::graph::{Act, Graph};
 use std::alloc::Global;
 
 /// Numbers for each of some texts.

@@ -3,14 +3,13 @@ ghost use Rattle.std.specs.Prelude.{◌≡◌, ◌<◌, ◌∷◌, ◌++◌, [],
 ghost use Rattle.std.specs.FinMap as map;
 ghost use Rattle.std.specs.List.{AllByRecursion};
 ghost use Rattle.std.specs.Option.{option_copied};
-ghost use Rattle.jam_engine.specs.Graphs.{HasTarget};
+ghost use Rattle.jam_graph.specs.Graphs.{HasTarget};
+ghost use Rattle.jam_graph.specs.declared.graph.Act.{Act as Calls};
 ghost use Rattle.jam_engine.specs.Acts.{actions_in, is_together_in, is_existing_in, same_texts, are_alike, once_if};
 ghost use Rattle.jam_engine.specs.Joining.{AreJoined, IsFirstAlike, IsKnownOf, begins_with, plainly_joined, there_if, finished_by, acts_by};
-ghost use Rattle.jam_engine.specs.declared.graph.Act.{Act as Calls};
 ghost use Rattle.jam_engine.specs.Scenes.{IsKnown, is_there_in};
 ghost use Rattle.jam_engine.specs.Tables.{HasOneMore};
 
-use crate::graph::{Act, Graph};
 use crate::index::{Numbers, add_number, numbers_of};
 use crate::scene::Scene;
 use b2_base::fault::OutOfMemory;
@@ -18,6 +17,7 @@ use b2_base::list::List;
 use b2_base::text::Text;
 use b2_base::text_list::{TextList, copy_texts, push_copies};
 use b2_base::text_map::TextMap;
+use jam_graph::graph::{Act, Graph};
 use jam_natives::texts::without_repeats;
 use jam_scope::body::ActionBody;
 use jam_scope::rule_ref::RuleRef;

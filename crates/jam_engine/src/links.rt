@@ -5,12 +5,12 @@ ghost use Rattle.jam_engine.specs.Tables.{acting, is_in};
 ghost use Rattle.jam_engine.specs.Acts.{AreSets};
 ghost use Rattle.jam_engine.specs.Linking.{HaveOneMore, HasNone, LabelsMore, waiting, AreLabels, IsSearch, IsNamedUnder, AreFirsts, AreSetsOf, AddsTo};
 
-use crate::graph::Act;
 use crate::index::{Numbers, add_number, numbers_of};
 use b2_base::fault::OutOfMemory;
 use b2_base::list::List;
 use b2_base::text::Text;
 use b2_base::text_map::TextMap;
+use jam_graph::graph::Act;
 use std::alloc::Global;
 
 /// Sets of places of acts.

@@ -1,13 +1,11 @@
 //! What is found of the texts of a graph.
 ghost use Rattle.std.specs.Prelude.{◌≡◌, ◌&&◌, ℕ, Bool, List, [], IfOk};
 ghost use Rattle.b2_base.specs.Bytes.{HasNoZero};
-ghost use Rattle.jam_engine.specs.Graphs.{IsReady};
+ghost use Rattle.jam_graph.specs.Graphs.{IsReady};
 ghost use Rattle.jam_engine.specs.Targets.{roots, is_source_of, first_source, searched, place_if};
 ghost use Rattle.jam_engine.specs.Tables.{IsIndexOf, IsScene};
 ghost use Rattle.jam_engine.specs.Looking.{Looked, StaysScene, IsAskedOf};
 
-use crate::fault::JamFault;
-use crate::graph::Graph;
 use crate::index::{Index, add_all};
 use crate::joining::is_existing;
 use crate::scene::{Found, Scene, or_here, placed, plain, roots_of, value};
@@ -16,6 +14,8 @@ use b2_base::path::Path;
 use b2_base::text::Text;
 use b2_base::text_map::TextMap;
 use b2_host::files::Files;
+use jam_graph::fault::JamFault;
+use jam_graph::graph::Graph;
 use jam_scope::world::World;
 use jam_values::paths::is_below_any;
 use std::alloc::Global;

@@ -1,18 +1,16 @@
 //! The plan of requested targets.
-ghost use Rattle.std.specs.Prelude.{◌≡◌, ℕ, Bool, List, None, not, IfOk, IsErrOf};
+ghost use Rattle.std.specs.Prelude.{◌≡◌, ℕ, Bool, List, None, not, IfOk, IfErr, IsErrOf};
 ghost use Rattle.std.specs.List.{find};
 ghost use Rattle.std.specs.Option.{option_copied};
 ghost use Rattle.b2_host.specs.OutsideLaws.{Keeps};
 ghost use Rattle.b2_plan.specs.Plans.{Apart};
-ghost use Rattle.jam_engine.specs.Graphs.{IsReady};
-ghost use Rattle.jam_engine.specs.Loading.{Counts};
+ghost use Rattle.jam_graph.specs.Graphs.{IsReady};
+ghost use Rattle.jam_graph.specs.Loading.{Counts, IsWhole};
 ghost use Rattle.jam_engine.specs.Tables.{is_in, IsIndexOf, IsScene};
 ghost use Rattle.jam_engine.specs.Plans.{requested, unknown};
 ghost use Rattle.jam_engine.specs.Targets.{roots};
 ghost use Rattle.jam_engine.specs.Planning.{IsPlannedOf, IsPlannedBy, HasNoTarget};
 
-use crate::fault::JamFault;
-use crate::graph::Graph;
 use crate::index::Index;
 use crate::joining::acts_of;
 use crate::links::sets_of;
@@ -26,6 +24,8 @@ use b2_base::text::Text;
 use b2_base::text_list::{TextList, copy_texts};
 use b2_host::files::Files;
 use b2_plan::plan::Plan;
+use jam_graph::fault::JamFault;
+use jam_graph::graph::Graph;
 use std::alloc::Global;
 
 /// The targets that words ask for.
@@ -79,6 +79,7 @@ fn plan_of(
     ensures plan { (stands : List ℕ → Bool) → IsScene graph.old stands scene.now → IsPlannedOf graph.old stands targets.now result }
     ensures apart { IfOk result (λ plan. Apart plan.steps plan.roots) }
     ensures no_host { ¬ IsErrOf result JamFault.Host }
+    ensures whole { IfErr result IsWhole }
 {
     let owned = acts_of(alloc, graph, scene)?;
     let acts = owned.as_slice();
@@ -90,8 +91,8 @@ fn plan_of(
 }
 
 /// The plan of the requested targets in a graph, or of `all` where there are none. The graph is as before. All calls of the host are
-/// made before a step is: for the directories of SEARCH, for targets that may be missing, and for sources of actions with
-/// `existing`.
+/// made before a step is: for the directories of SEARCH, and for targets that may be missing and sources of actions with `existing`
+/// which lie below no root.
 ///
 /// `NoTarget` comes exactly where a word is no target; then, for each step, `TooManySteps`, `MixedNotFile`, `Eval` of a body,
 /// `LocationOutside` and `PathClash`, in this order.
@@ -105,6 +106,7 @@ pub fn jam_plan<F: Files>(
     ensures planned { IsPlannedBy (F.outside files.old).disk graph.old targets.now result }
     ensures same { graph.new ≡ graph.old }
     ensures apart { IfOk result (λ plan. Apart plan.steps plan.roots) }
+    ensures whole { IfErr result IsWhole }
     ensures disk { (F.outside files.new).disk ≡ (F.outside files.old).disk }
     ensures children { (F.outside files.new).children ≡ (F.outside files.old).children }
     ensures keeps { Keeps (F.outside files.old) (F.outside files.new) }

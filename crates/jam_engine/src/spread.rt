@@ -4,7 +4,6 @@ ghost use Rattle.jam_engine.specs.Tables.{IsIndexOf, IsScene};
 ghost use Rattle.jam_engine.specs.Spreads.{behind, next, Meets};
 ghost use Rattle.jam_engine.specs.Spreading.{stacked, seconds_at, MeetsOne, SpreadsTo};
 
-use crate::graph::Graph;
 use crate::index::Index;
 use crate::scene::Scene;
 use b2_base::fault::OutOfMemory;
@@ -12,6 +11,7 @@ use b2_base::path_list::PathList;
 use b2_base::text::Text;
 use b2_base::text_list::TextList;
 use b2_base::text_map::TextMap;
+use jam_graph::graph::Graph;
 use std::alloc::Global;
 
 /// Puts the second texts of pairs at some places on a stack, the last first.

@@ -1,20 +1,19 @@
 //! The steps of sets of acts.
-ghost use Rattle.std.specs.Prelude.{◌≡◌, ◌≢◌, ◌<◌, ◌++◌, [], true, All, None, length, map, not, IfOk, IsErrOf, OnOk};
+ghost use Rattle.std.specs.Prelude.{◌≡◌, ◌≢◌, ◌<◌, ◌++◌, [], true, All, None, length, map, not, IfOk, IfErr, IsErrOf, OnOk};
 ghost use Rattle.std.specs.List.{AllByRecursion, flat_map, list_any, list_all, find};
 ghost use Rattle.std.specs.Option.{option_copied};
 ghost use Rattle.b2_plan.specs.Sources.{IsInRoots};
 ghost use Rattle.b2_base.specs.Segments.{normal_of};
 ghost use Rattle.jam_natives.specs.SeenTexts.{HasSeen};
 ghost use Rattle.jam_natives.specs.Texts.{add_new, without_repeats};
-ghost use Rattle.jam_engine.specs.Graphs.{IsReady};
+ghost use Rattle.jam_graph.specs.Graphs.{IsReady};
+ghost use Rattle.jam_graph.specs.Loading.{IsWhole};
 ghost use Rattle.jam_engine.specs.Acts.{acts_at, is_quiet_in};
 ghost use Rattle.jam_engine.specs.Tables.{is_in, IsIndexOf};
 ghost use Rattle.jam_engine.specs.Targets.{or_here, depends_of, is_below_roots};
 ghost use Rattle.jam_engine.specs.Spreading.{seconds_at};
 ghost use Rattle.jam_engine.specs.Stepping.{ArePlaced, IsMixedBy, name_in, header_dirs_of, IsMadeStep, StepsTo, JoinsOne, JoinsBy, AreSteps};
 
-use crate::fault::JamFault;
-use crate::graph::{Act, Graph};
 use crate::joining::actions_of;
 use crate::links::Sets;
 use crate::scene::{Scene, or_here, value};
@@ -29,6 +28,8 @@ use b2_base::text_list::{TextList, push_copies};
 use b2_plan::step::Step;
 use b2_virtual::builder::Builder;
 use b2_virtual::fault::VirtualFault;
+use jam_graph::fault::JamFault;
+use jam_graph::graph::{Act, Graph};
 use jam_natives::texts::without_repeats;
 use jam_scope::world::World;
 use std::alloc::Global;
@@ -287,6 +288,7 @@ fn step_of(
     ensures step { StepsTo graph.old scene.now (acts_at acts.now set.now) result }
     ensures inside { IfOk result (λ step. AllByRecursion (IsInRoots scene.now.roots) step.outs) }
     ensures no_host { ¬ IsErrOf result JamFault.Host }
+    ensures whole { IfErr result IsWhole }
 {
     let owned = targets_at(alloc, acts, set)?;
     let targets = owned.as_slice();
@@ -305,6 +307,7 @@ fn join(builder: &mut Builder, step: Step) -> Result<(), JamFault>
     requires { length builder.old ≢ 65536 }
     ensures joins { JoinsOne builder.old step builder.new result }
     ensures some_out { OnOk result (step.outs ≢ []) }
+    ensures whole { IfErr result IsWhole }
 {
     let count = builder.steps().len();
     let first = match step.outs.as_slice() {
@@ -337,6 +340,7 @@ fn add_step(
     ensures joins { JoinsBy graph.old scene.now builder.old (acts_at acts.now set.now) builder.new result }
     ensures placed { OnOk result (ArePlaced scene.now.roots builder.old → ArePlaced scene.now.roots builder.new) }
     ensures no_host { ¬ IsErrOf result JamFault.Host }
+    ensures whole { IfErr result IsWhole }
 {
     if builder.steps().len() == 65536 {
         return Err(JamFault::TooManySteps { count: 65537 });
@@ -360,6 +364,7 @@ pub(crate) fn steps_of(
     ensures steps { AreSteps graph.old scene.now (map (acts_at acts.now) sets.now.items) result }
     ensures placed { IfOk result (ArePlaced scene.now.roots) }
     ensures no_host { ¬ IsErrOf result JamFault.Host }
+    ensures whole { IfErr result IsWhole }
 {
     let mut builder = Builder::new(alloc);
     for set in sets {

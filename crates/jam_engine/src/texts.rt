@@ -1,16 +1,15 @@
 //! The texts of steps.
-ghost use Rattle.std.specs.Prelude.{◌≡◌, ◌<◌, ◌++◌, All, length, IfOk, IsErrOf, OnOk, string_bytes};
+ghost use Rattle.std.specs.Prelude.{◌≡◌, ◌<◌, ◌++◌, All, length, IfOk, IfErr, IsErrOf, OnOk, string_bytes};
 ghost use Rattle.std.specs.Option.{option_copied};
 ghost use Rattle.b2_base.specs.Bytes.{HasNoZero};
 ghost use Rattle.jam_meaning.specs.Rolled.{is_text, own_at};
-ghost use Rattle.jam_engine.specs.Graphs.{IsReady};
+ghost use Rattle.jam_graph.specs.Graphs.{IsReady};
+ghost use Rattle.jam_graph.specs.Loading.{IsWhole};
 ghost use Rattle.jam_engine.specs.Acts.{acts_at};
 ghost use Rattle.jam_engine.specs.Scenes.{HavePaths};
 ghost use Rattle.jam_engine.specs.Steps.{in_parens, and_so_on, whole_text};
 ghost use Rattle.jam_engine.specs.Texting.{body_in, IsExpansion, IsExpandFault, IsTextOf, AreTextsOf};
 
-use crate::fault::JamFault;
-use crate::graph::{Act, Graph};
 use crate::joining::actions_of;
 use crate::scene::Scene;
 use b2_base::fault::OutOfMemory;
@@ -20,6 +19,8 @@ use b2_base::text::Text;
 use b2_base::text_list::TextList;
 use jam_effects::fault::{EvalCause, EvalFault};
 use jam_expand::body::{ExpandFault, expand_body};
+use jam_graph::fault::JamFault;
+use jam_graph::graph::{Act, Graph};
 use jam_scope::world::World;
 use std::alloc::Global;
 
@@ -136,6 +137,7 @@ fn act_text(alloc: Global, graph: &mut Graph, scene: &Scene, act: &Act) -> Resul
     ensures same { graph.new ≡ graph.old }
     ensures text { IsTextOf graph.old scene.now act.now result }
     ensures no_host { ¬ IsErrOf result JamFault.Host }
+    ensures whole { IfErr result IsWhole }
 {
     let body = body_of(&graph.world, act)?;
     graph.world.enter(act.module.as_str())?;
@@ -160,6 +162,7 @@ pub(crate) fn texts_of(
     ensures same { graph.new ≡ graph.old }
     ensures texts { AreTextsOf graph.old scene.now (acts_at acts.now set.now) result }
     ensures no_host { ¬ IsErrOf result JamFault.Host }
+    ensures whole { IfErr result IsWhole }
 {
     let mut texts = TextList::new(alloc);
     for place in set {

@@ -1,6 +1,6 @@
 //! Why there is no graph or no plan.
 use b2_project_cases::faults::{put_eval_fault, put_lex_fault, put_size, put_syntax_fault};
-use jam_engine::fault::JamFault;
+use jam_graph::fault::JamFault;
 use jam_parser::fault::SyntaxFault;
 use transcript::answer::Answer;
 

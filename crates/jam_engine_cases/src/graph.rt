@@ -1,6 +1,6 @@
 //! A graph as it is shown.
 use b2_base::text::Text;
-use jam_engine::graph::{Act, Graph};
+use jam_graph::graph::{Act, Graph};
 use std::alloc::Global;
 use transcript::answer::Answer;
 use transcript::case_fault::CaseFault;

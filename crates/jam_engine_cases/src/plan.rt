@@ -1,13 +1,13 @@
 //! A plan as it is shown.
-ghost use Rattle.jam_engine.specs.Graphs.{IsReady};
+ghost use Rattle.jam_graph.specs.Graphs.{IsReady};
 
 use crate::faults::push_refusal;
 use b2_base::path::Path;
 use b2_memory::memory::MemoryHost;
 use b2_plan::plan::Plan;
 use b2_plan::step::Step;
-use jam_engine::graph::Graph;
 use jam_engine::plan::jam_plan;
+use jam_graph::graph::Graph;
 use std::alloc::Global;
 use std::mem::ManuallyDrop;
 use transcript::answer::Answer;

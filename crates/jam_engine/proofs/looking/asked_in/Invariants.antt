@@ -1,8 +1,8 @@
 use Rattle.std.proofs.Common.{List, take, true, ℕ, ◌≡◌}
 use Rattle.std.specs.List.{Contains}
+use Rattle.jam_graph.specs.declared.graph.Act.{Act}
 use Rattle.jam_engine.specs.Acts.{is_existing}
 use Rattle.jam_engine.specs.Tables.{is_in}
-use Rattle.jam_engine.specs.declared.graph.Act.{Act}
 use Rattle.jam_engine.proofs.looking.asked_in.Given as goal
 
 -- each source of an act so far that asks for it is in the set

@@ -4,8 +4,8 @@ use Rattle.std.specs.Prelude.{codes}
 use Rattle.std.proofs.lemmas.List.{take_all}
 use Rattle.jam_journal.specs.Scopes.{look_in, module_of}
 use Rattle.jam_scope.specs.Texts.{first_roots}
+use Rattle.jam_graph.proofs.ListsGrow.{filter_on}
 use Rattle.jam_engine.specs.Targets.{root_of}
-use Rattle.jam_engine.proofs.ListsGrow.{filter_on}
 use Rattle.jam_engine.proofs.scene.roots_of.Goals as goal
 
 pub loop-dir-preserved : goal.loop-dir-preserved

@@ -1,7 +1,7 @@
 use Rattle.std.proofs.Common.{◌∙◌, ◌++◌, List, ℕ, ap, ap₂}
+use Rattle.jam_graph.proofs.ListsGrow.{flat_step}
 use Rattle.jam_engine.specs.Spreading.{seconds_at}
 use Rattle.jam_engine.specs.Targets.{depends_of}
-use Rattle.jam_engine.proofs.ListsGrow.{flat_step}
 use Rattle.jam_engine.proofs.SecondsByPlaces.{within_by, seconds_found}
 use Rattle.jam_engine.proofs.steps.asked_at.Goals as goal
 

@@ -1,6 +1,6 @@
 use Rattle.std.proofs.Common.{◌∙◌, ◌≡◌, ◌<◌, IfOk, length, get_or, refl, sym, ap, subst}
 use Rattle.std.proofs.lemmas.List.Elements.{All-get_or}
-use Rattle.jam_engine.specs.declared.graph.Act.{Act}
+use Rattle.jam_graph.specs.declared.graph.Act.{Act}
 use Rattle.jam_engine.specs.Acts.{is_quiet_in}
 use Rattle.jam_engine.proofs.ActsAtPlaces.{same_item, name_found, name_later}
 use Rattle.jam_engine.proofs.steps.name_at.Goals as goal

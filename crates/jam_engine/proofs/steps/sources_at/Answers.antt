@@ -1,6 +1,6 @@
 use Rattle.std.proofs.Common.{◌∙◌, ◌<◌, ◌++◌, List, ℕ, length, get_or, refl, sym, ap}
 use Rattle.std.proofs.lemmas.List.Elements.{All-get_or}
-use Rattle.jam_engine.specs.declared.graph.Act.{Act}
+use Rattle.jam_graph.specs.declared.graph.Act.{Act}
 use Rattle.jam_engine.proofs.ActsAtPlaces.{flat_acts}
 use Rattle.jam_engine.proofs.steps.sources_at.Goals as goal
 

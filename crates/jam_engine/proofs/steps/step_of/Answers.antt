@@ -1,13 +1,15 @@
-use Rattle.std.proofs.Common.{◌∙◌, List, ℕ, not, Option, Some, Err, sym, ap, ap₂, subst}
+use Rattle.std.proofs.Common.{IfErr, ◌∙◌, List, ℕ, not, Option, Some, Err, sym, ap, ap₂, subst}
 use Rattle.std.specs.List.{find}
 use Rattle.std.specs.Option.{option_copied}
 use Rattle.std.proofs.lemmas.Result.{err_from_is_err_and}
-use Rattle.jam_engine.specs.declared.graph.Graph.{Graph}
+use Rattle.jam_graph.specs.declared.graph.Graph.{Graph}
+use Rattle.jam_graph.specs.Loading.{IsWhole}
 use Rattle.jam_engine.specs.Acts.{acts_at}
 use Rattle.jam_engine.specs.Steps.{whole_text}
 use Rattle.jam_engine.specs.Stepping.{IsMadeStep, IsStepFor}
 use Rattle.jam_engine.specs.Targets.{is_below_roots}
 use Rattle.jam_engine.proofs.StepsJoin.{none_mixed, mixed_stops, texts_stop, outside_stops, step_made}
+use Rattle.jam_engine.proofs.PlanRefusalsAreWhole.{mixed_whole}
 use Rattle.jam_engine.proofs.steps.step_of.Goals as goal
 
 pub returns-in_err-check_mixed-clause-step : goal.returns-in_err-check_mixed-clause-step
@@ -59,3 +61,8 @@ returns-clause-step c stands h =
     let found = sym c.first_outside.ensures.exact ∙ ap option_copied c.in_default.is in
     step_made g scene stands set targets targets_are h pure c.in_ok-texts.texts c.in_ok-text.text step (c.in_ok-texts.ensures.texts stands h) (c.in_ok-text.ensures ∙ ap whole_text c.as_slice.ensures) made
     (ap₂ (λ (r l : List (List ℕ)). find (λ out. not (is_below_roots r out)) l) (sym c.as_slice-2.ensures) (sym c.as_slice-3.ensures) ∙ found)
+
+pub returns-in_err-check_mixed-clause-whole : goal.returns-in_err-check_mixed-clause-whole
+returns-in_err-check_mixed-clause-whole c =
+    let (y, e, q) = err_from_is_err_and c.from_residual-in_err-check_mixed.result c.from_residual-in_err-check_mixed.ensures.1 in
+    subst (λ r. IfErr r IsWhole) (sym e) (subst IsWhole (sym q) (mixed_whole c.args.scene.now c.as_slice-targets.result.now c.in_err-check_mixed.field-0.0 c.in_err-check_mixed.ensures))

@@ -1,5 +1,5 @@
 use Rattle.std.proofs.Common.{List, length, ◌<◌, arith, refl, subst, ◌∙◌}
-use Rattle.jam_engine.specs.declared.graph.Act.{Act}
+use Rattle.jam_graph.specs.declared.graph.Act.{Act}
 use Rattle.jam_engine.proofs.AlikeFound.{at_get, together_within, found_within, found_joins, none_joins}
 use Rattle.jam_engine.proofs.joining.Joined.join.Goals as goal
 

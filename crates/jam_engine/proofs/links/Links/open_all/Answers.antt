@@ -2,7 +2,7 @@ use Rattle.std.proofs.Common.{◌∷◌, [], List, Bor, sym, ap, subst, ◌∙�
 use Rattle.std.specs.List.{Contains, slice_get}
 use Rattle.std.proofs.lemmas.List.{take_all}
 use Rattle.jam_journal.specs.Scopes.{Value}
-use Rattle.jam_engine.specs.declared.graph.Act.{Act}
+use Rattle.jam_graph.specs.declared.graph.Act.{Act}
 use Rattle.jam_engine.proofs.AlikeFound.{at_get}
 use Rattle.jam_engine.proofs.LabelsHold.{search_within, named_at, opened_more}
 use Rattle.jam_engine.proofs.LinksOpen.{all_opened}

@@ -1,0 +1,4 @@
+pub mod CallsGoThrough
+pub mod LinesAreAdded
+pub mod FilesLoad
+pub mod ListsGrow
