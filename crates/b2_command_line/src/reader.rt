@@ -105,7 +105,8 @@ fn strs_of<'a>(alloc: Global, words: &'a [Text]) -> Result<Vec<&'a str>, AllocEr
     Ok(strs)
 }
 
-fn read_build(alloc: Global, words: &[Text]) -> Result<Words, WordsFault>
+/// Reads the words of a build, a look, an explanation or of cleaning.
+pub(crate) fn read_build(alloc: Global, words: &[Text]) -> Result<Words, WordsFault>
     ensures ok { IfOk result (λ read. build_reading words.now ≡ Some read) }
     ensures usage { IsErrOf result WordsFault.Usage → build_reading words.now ≡ None }
 {

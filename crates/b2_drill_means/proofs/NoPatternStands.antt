@@ -201,6 +201,7 @@ module _ (one_reading : OneReading) (one_meaning : OneMeaning) (one_ending : One
   refused_not (faults.Load fault) lines p h = load_not fault lines p h
   refused_not (faults.Request fault) lines p h = none_some p.0 p.1
   refused_not (faults.Gen fault) lines p h = generation_not fault lines p h
+  refused_not (faults.Jam fault) lines p h = absurd h
   refused_not (faults.StepCycle list) lines p h = none_some p.0 p.1
   refused_not (faults.TooBig path size) lines p h = none_some p.0 p.1
 

@@ -8,11 +8,13 @@ use Rattle.b2_host.specs.OutputLaws.{OutKeeps}
 use Rattle.b2_endings.specs.declared.failed_lists.FailedLists.{FailedLists}
 use Rattle.b2_refusals.specs.Wholes.{IsWhole}
 use Rattle.b2_refusals.specs.declared.fault.Fault.{Fault}
+use Rattle.b2_refusals.specs.declared.fault.Fault.TheVariants as faults
 use Rattle.b2_runs.specs.Moments.{Moment}
 use Rattle.b2_runs.specs.UpdateAnswers.{LeavesNone}
 use Rattle.b2_drain.specs.Drains.{Made}
 use Rattle.b2_command_line.specs.Words.{Word}
-use Rattle.b2_top.specs.Answered.{CleanTold, HappenedTold, CountsTold}
+use Rattle.b2_top.specs.Answered.{CleanTold, CleanFor, HappenedTold, WhatHappened, CountsTold}
+use Rattle.b2_top.specs.Askings.{Source, Source.project, Source.jam_file, Asking, build_of, jam_of, IsWholeFor}
 use Rattle.b2_top.specs.Explains.{IsTold as IsExplainedTold, IsOfExplain, CauseTold as ExplainCauseTold}
 use Rattle.b2_top.specs.Cleans.{CauseTold as CleanCauseTold}
 use Rattle.b2_top.specs.Endings.{IsUsageOrCutShort, IfRefused}
@@ -23,11 +25,24 @@ use Rattle.b2_top.specs.BetweenMoments.{CountsStay, HostFailedBeforeReport, Writ
 use Rattle.b2_top.specs.declared.answer.Answer.{Answer}
 use Rattle.b2_top.specs.declared.answer.Answer.TheVariants as answers
 use Rattle.b2_top.specs.declared.mode.Mode.{Mode}
-use Rattle.b2_top.specs.declared.mode.Mode.TheVariants.{Build, Look, Explain, Clean, Drill}
+use Rattle.b2_top.specs.declared.mode.Mode.TheVariants.{Build, Look, Explain, Clean, Drill, Jam}
 use Rattle.b2_source_laws.specs.AfterCleaning.{LeavesToBuild, NextAfterCleaning}
-use Rattle.b2_program.specs.Called.{IsBuild, IsLook, IsExplanation, IsCleaning, IsDrill, AnswersOver, Promises, EndsWith}
-use Rattle.b2_program.specs.Causes.{IsFailed, IsRefusedFor, IsRefused, IsNoCommand, IsUsage, IsUsageStatus, IsSinkFault, IsDrillDone, IsCleanedFor}
+use Rattle.b2_program.specs.Called.{IsBuild, IsJam, IsLook, IsExplanation, IsCleaning, IsDrill, AnswersOver, Promises, EndsWith}
+use Rattle.b2_program.specs.Causes.{IsAskedBy, IsFailed, IsRefusedFor, IsRefused, IsNoCommand, IsUsage, IsUsageStatus, IsSinkFault, IsDrillDone, IsCleanedFor}
 use Rattle.b2_program.proofs.StatusTellsAnswer.{status_at_most, is_ok, is_failed, is_refused, is_usage}
+
+-- a refusal from there is whole
+whole_of : (fault : Fault) (source : Source) → IsWholeFor fault source → IsWhole fault
+whole_of (faults.Load fault) project h = h
+whole_of (faults.Load fault) (jam_file file) h = absurd h
+whole_of (faults.Request fault) project h = h
+whole_of (faults.Request fault) (jam_file file) h = absurd h
+whole_of (faults.Gen fault) project h = h
+whole_of (faults.Gen fault) (jam_file file) h = absurd h
+whole_of (faults.Jam fault) project h = absurd h
+whole_of (faults.Jam fault) (jam_file file) h = h
+whole_of (faults.StepCycle list) source h = h
+whole_of (faults.TooBig path size) source h = h
 
 -- ---- answers
 
@@ -114,6 +129,7 @@ module _ (made : Made) (words : List Word) (before after : Moment) (status : ℕ
 
   of_mode : (m : Mode) → before.host.children.running ≡ [] → Has m → Stays before after a
   of_mode Build idle p = of_build p
+  of_mode Jam idle p = record { counts = p.answered.counts; none_left = p.none_left; keeps = p.keeps; out_keeps = p.answered.out_keeps }
   of_mode Look idle p = record {
     counts = look_counts before after a p.answered.counts;
     none_left = inl (ap (λ (f : Family). f.running) p.children ∙ idle);
@@ -152,6 +168,11 @@ module _ (made : Made) (words : List Word) (before after : Moment) (status : ℕ
       let p : IsBuild made words before after a = subst Has is e.promised in
       p.answered.clean (is_ok a (sym e.is ∙ well))
 
+  pub built_told : mode_of words ≡ Jam → status ≡ 0 → CleanFor made (jam_of words) before.host after.host
+  built_told is well =
+      let p : IsJam made words before after a = subst Has is e.promised in
+      p.answered.clean (is_ok a (sym e.is ∙ well))
+
   pub shown_told : mode_of words ≡ Look → status ≡ 0 → WrittenTold before after (IsShown words)
   shown_told is well =
       let p : IsLook words before after a = subst Has is e.promised in
@@ -183,8 +204,12 @@ module _ (made : Made) (words : List Word) (before after : Moment) (status : ℕ
       found : (lists : FailedLists) × (a ≡ answers.Failed lists)
       found = is_failed a (sym e.is ∙ one)
 
+      asked : (m : Mode) → mode_of words ≡ m → (asking : Asking) → IsAskedBy m words asking → IsAskedBy (mode_of words) words asking
+      asked m is asking by = subst (λ m. IsAskedBy m words asking) (sym is) by
+
       go : (m : Mode) → mode_of words ≡ m → Has m → IsFailed made words before.host after.host
-      go Build is p = record { is_build = is; lists = found.0; updated = subst (HappenedTold made words before.host after.host) found.1 p.answered.happened }
+      go Build is p = record { asking = build_of words; is_build = asked Build is (build_of words) refl; lists = found.0; updated = subst (HappenedTold made words before.host after.host) found.1 p.answered.happened }
+      go Jam is p = record { asking = jam_of words; is_build = asked Jam is (jam_of words) refl; lists = found.0; updated = subst (WhatHappened made (jam_of words) before.host after.host) found.1 p.answered.happened }
       go Look is p = absurd (subst IsOfLook found.1 p.answered.not_failed)
       go Explain is p = absurd (subst IsOfExplain found.1 p.not_failed)
       go Clean is p = absurd (subst IsOfLook found.1 p.not_failed)
@@ -200,10 +225,11 @@ module _ (made : Made) (words : List Word) (before after : Moment) (status : ℕ
       of m is whole cause = record { fault = found.0; whole = whole; cause = subst (λ m. IsRefusedFor m made words before.host after.host found.0) (sym is) cause }
 
       go : (m : Mode) → mode_of words ≡ m → Has m → IsRefused made words before.host after.host
-      go Build is p = of Build is (subst (IfRefused IsWhole) found.1 p.answered.whole) (subst (HappenedTold made words before.host after.host) found.1 p.answered.happened)
-      go Look is p = of Look is (subst (IfRefused IsWhole) found.1 p.answered.whole) (subst (CauseTold words before.host) found.1 p.answered.cause)
-      go Explain is p = of Explain is (subst (IfRefused IsWhole) found.1 p.whole) (subst (ExplainCauseTold words before.host) found.1 p.cause)
-      go Clean is p = of Clean is (subst (IfRefused IsWhole) found.1 p.whole) (subst (CleanCauseTold words before.host) found.1 p.cause)
+      go Jam is p = of Jam is (whole_of found.0 (jam_of words).source (subst (IfRefused (λ fault. IsWholeFor fault (jam_of words).source)) found.1 p.answered.whole)) (subst (WhatHappened made (jam_of words) before.host after.host) found.1 p.answered.happened)
+      go Build is p = of Build is (whole_of found.0 project (subst (IfRefused (λ fault. IsWholeFor fault project)) found.1 p.answered.whole)) (subst (HappenedTold made words before.host after.host) found.1 p.answered.happened)
+      go Look is p = of Look is (whole_of found.0 project (subst (IfRefused (λ fault. IsWholeFor fault project)) found.1 p.answered.whole)) (subst (CauseTold words before.host) found.1 p.answered.cause)
+      go Explain is p = of Explain is (whole_of found.0 project (subst (IfRefused (λ fault. IsWholeFor fault project)) found.1 p.whole)) (subst (ExplainCauseTold words before.host) found.1 p.cause)
+      go Clean is p = of Clean is (whole_of found.0 project (subst (IfRefused (λ fault. IsWholeFor fault project)) found.1 p.whole)) (subst (CleanCauseTold words before.host) found.1 p.cause)
       go Drill is p = absurd (subst (λ answer. AnswersOver words before.out after.out answer p.last) found.1 p.answered)
 
   pub usage_told_so : status ≡ 3 → IsUsage words before after
@@ -218,6 +244,8 @@ module _ (made : Made) (words : List Word) (before after : Moment) (status : ℕ
       go : (m : Mode) → mode_of words ≡ m → Has m → IsUsage words before after
       go Build is p = let none = p.answered.no_usage found in
           record { none = none_so Build is none; host = p.answered.alone none; out = p.answered.usage_told found }
+      go Jam is p = let none = p.answered.no_usage found in
+          record { none = none_so Jam is none; host = p.answered.alone none; out = p.answered.usage_told found }
       go Look is p = let none = p.answered.no_usage found in
           record { none = none_so Look is none; host = p.answered.alone none; out = p.answered.usage_told found }
       go Explain is p = let none = p.no_usage found in
@@ -232,6 +260,7 @@ module _ (made : Made) (words : List Word) (before after : Moment) (status : ℕ
     where
       go : (m : Mode) → mode_of words ≡ m → IsNoCommand m words → Has m → IsUsageOrCutShort a
       go Build is none p = p.answered.usage none
+      go Jam is none p = p.answered.usage none
       go Look is none p = p.answered.usage none
       go Explain is none p = p.usage none
       go Clean is none p = p.usage none

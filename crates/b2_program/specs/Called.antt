@@ -12,7 +12,8 @@ use Rattle.b2_drain.specs.Drains.{Made}
 use Rattle.b2_command_line.specs.Words.{Word}
 use Rattle.b2_drill_call.specs.Asked.{drill_of}
 use Rattle.b2_drill_call.specs.Drilled.{AnswersDrill}
-use Rattle.b2_top.specs.Answered.{IsAnswered}
+use Rattle.b2_top.specs.Askings.{jam_of}
+use Rattle.b2_top.specs.Answered.{IsAnswered, IsAnsweredFor}
 use Rattle.b2_top.specs.Endings.{IsUsageOrCutShort}
 use Rattle.b2_top.specs.Shows.{IsAnswered as IsLookAnswered}
 use Rattle.b2_top.specs.Explains.{IsAnswered as IsExplanationAnswered}
@@ -21,11 +22,17 @@ use Rattle.b2_top.specs.Modes.{mode_of}
 use Rattle.b2_top.specs.Statuses.{status_of}
 use Rattle.b2_top.specs.declared.answer.Answer.{Answer}
 use Rattle.b2_top.specs.declared.mode.Mode.{Mode}
-use Rattle.b2_top.specs.declared.mode.Mode.TheVariants.{Build, Look, Explain, Clean, Drill}
+use Rattle.b2_top.specs.declared.mode.Mode.TheVariants.{Build, Look, Explain, Clean, Drill, Jam}
 
 -- all that the build command promises
 pub record IsBuild (made : Made) (words : List Word) (before after : Moment) (answer : Answer) : Type 0 where
   pub answered : IsAnswered made words before after answer
+  pub none_left : LeavesNone before.host after.host
+  pub keeps : Keeps before.host after.host
+
+-- all that the command of plain Jam mode promises
+pub record IsJam (made : Made) (words : List Word) (before after : Moment) (answer : Answer) : Type 0 where
+  pub answered : IsAnsweredFor made (jam_of words) before after answer
   pub none_left : LeavesNone before.host after.host
   pub keeps : Keeps before.host after.host
 
@@ -63,6 +70,7 @@ Promises Look made words before after answer = IsLook words before after answer
 Promises Explain made words before after answer = IsExplanation words before after answer
 Promises Clean made words before after answer = IsCleaning words before after answer
 Promises Drill made words before after answer = IsDrill words before after answer
+Promises Jam made words before after answer = IsJam made words before after answer
 
 -- The status is that of an answer of which all holds that the command promises which the words are for.
 pub record EndsWith (made : Made) (words : List Word) (before after : Moment) (status : ℕ) : Type 0 where

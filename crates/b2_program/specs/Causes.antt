@@ -23,19 +23,30 @@ use Rattle.b2_top.specs.Explains.{IsTooBigPlan}
 use Rattle.b2_top.specs.Cleans.{HasPlan as IsCleaningPlan}
 use Rattle.b2_top.specs.FreePlans.{HasNoFreePlan}
 use Rattle.b2_explain.specs.Cleaning.{IsCleaned}
-use Rattle.b2_top.specs.Builds.{HasBuilt, RefusedBy}
+use Rattle.b2_top.specs.Askings.{Asking, build_of, jam_of}
+use Rattle.b2_top.specs.Builds.{HasBuiltFor, RefusedBy, RefusedFor}
 use Rattle.b2_top.specs.Commands.{build_command}
 use Rattle.b2_top.specs.Looks.{look_of}
 use Rattle.b2_top.specs.Modes.{mode_of}
 use Rattle.b2_top.specs.Shows.{HasNoPlan}
 use Rattle.b2_top.specs.declared.mode.Mode.{Mode}
-use Rattle.b2_top.specs.declared.mode.Mode.TheVariants.{Build, Look, Explain, Clean, Drill}
+use Rattle.b2_top.specs.declared.mode.Mode.TheVariants.{Build, Look, Explain, Clean, Drill, Jam}
 
--- The words are a build, and its update ended with these lists.
+-- this is what words ask for that are a build, of the project or of a Jam file
+abbrev pub IsAskedBy : Mode → List Word → Asking → Type 0
+IsAskedBy Build words asking = asking ≡ build_of words
+IsAskedBy Jam words asking = asking ≡ jam_of words
+IsAskedBy Look words asking = ⊥
+IsAskedBy Explain words asking = ⊥
+IsAskedBy Clean words asking = ⊥
+IsAskedBy Drill words asking = ⊥
+
+-- The words are a build, of the project or of a Jam file, and its update ended with these lists.
 pub record IsFailed (made : Made) (words : List Word) (before after : Outside) : Type 0 where
-  pub is_build : mode_of words ≡ Build
+  pub asking : Asking
+  pub is_build : IsAskedBy (mode_of words) words asking
   pub lists : FailedLists
-  pub updated : BothTold (λ disk later. HasBuilt made words before after disk later (failed (lists_of lists)))
+  pub updated : BothTold (λ disk later. HasBuiltFor made asking before after disk later (failed (lists_of lists)))
       before.disk after.disk
 
 -- the cause of a refusal, by the command: of a build also one that its update came to
@@ -49,6 +60,8 @@ IsRefusedFor Explain made words before after fault = IfSome before.disk (λ disk
 IsRefusedFor Clean made words before after fault =
     IfSome before.disk (λ disk. (echoes : List Word) × HasNoFreePlan (clean_words words) disk echoes fault)
 IsRefusedFor Drill made words before after fault = ⊥
+IsRefusedFor Jam made words before after fault =
+    BothTold (λ disk later. RefusedFor made (jam_of words) before after disk later fault) before.disk after.disk
 
 -- Something is refused, and the words and the files are its cause.
 pub record IsRefused (made : Made) (words : List Word) (before after : Outside) : Type 0 where
@@ -63,6 +76,7 @@ IsNoCommand Look words = look_of words ≡ None
 IsNoCommand Explain words = explain_command words ≡ None
 IsNoCommand Clean words = clean_words words ≡ None
 IsNoCommand Drill words = drill_of words ≡ None
+IsNoCommand Jam words = (jam_of words).command ≡ None
 
 -- The words are of no command. The usage line was written, and nothing else was done.
 pub record IsUsage (words : List Word) (before after : Moment) : Type 0 where

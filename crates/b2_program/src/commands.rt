@@ -3,7 +3,7 @@ ghost use Rattle.std.specs.Prelude.{◌≡◌, []};
 ghost use Rattle.b2_update.specs.Moments.{moment};
 ghost use Rattle.b2_top.specs.Modes.{mode_of};
 ghost use Rattle.b2_host.specs.Outside.{Outside};
-ghost use Rattle.b2_program.specs.Called.{IsBuild, IsLook, IsExplanation, IsCleaning, IsDrill, Promises};
+ghost use Rattle.b2_program.specs.Called.{IsBuild, IsJam, IsLook, IsExplanation, IsCleaning, IsDrill, Promises};
 
 use b2_base::text::Text;
 use b2_drill_call::drill::drill_in_memory;
@@ -13,6 +13,7 @@ use b2_host::sink::Sink;
 use b2_top::answer::Answer;
 use b2_top::clean::clean_b2;
 use b2_top::explain::explain_b2;
+use b2_top::jam::run_jam;
 use b2_top::mode::{Mode, mode_of};
 use b2_top::run::run_b2;
 use b2_top::show::show_b2;
@@ -25,6 +26,15 @@ fn build<H: Children, S: Sink>(alloc: Global, words: &[Text], host: &mut H, out:
         (moment (H.outside host.new) (S.output out.new)) result }
 {
     run_b2(alloc, words, host, out)
+}
+
+/// The command of plain Jam mode.
+fn jam<H: Children, S: Sink>(alloc: Global, words: &[Text], host: &mut H, out: &mut S) -> Answer
+    requires { (H.outside host.old).children.running ≡ [] }
+    ensures { IsJam H.made words.now (moment (H.outside host.old) (S.output out.old))
+        (moment (H.outside host.new) (S.output out.new)) result }
+{
+    run_jam(alloc, words, host, out)
 }
 
 /// The look command.
@@ -75,5 +85,6 @@ pub fn run_command<H: Children, S: Sink>(
         Mode::Explain => explain(alloc, words, host, out),
         Mode::Clean => clean(alloc, words, host, out),
         Mode::Drill => drill(alloc, words, out),
+        Mode::Jam => jam(alloc, words, host, out),
     }
 }

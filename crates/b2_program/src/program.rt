@@ -4,13 +4,14 @@ ghost use Rattle.b2_host.specs.OutsideLaws.{Keeps};
 ghost use Rattle.b2_host.specs.OutputLaws.{OutKeeps};
 ghost use Rattle.b2_runs.specs.UpdateAnswers.{LeavesNone};
 ghost use Rattle.b2_update.specs.Moments.{moment};
-ghost use Rattle.b2_top.specs.Answered.{CleanTold};
+ghost use Rattle.b2_top.specs.Answered.{CleanTold, CleanFor};
+ghost use Rattle.b2_top.specs.Askings.{jam_of};
 ghost use Rattle.b2_top.specs.BetweenMoments.{CountsStay, HostFailedBeforeReport, WrittenTold};
 ghost use Rattle.b2_top.specs.Shows.{IsShown};
 ghost use Rattle.b2_top.specs.Explains.{IsTold as IsExplainedTold};
 ghost use Rattle.b2_host.specs.ChildProcesses.{BothTold};
 ghost use Rattle.b2_top.specs.Modes.{mode_of};
-ghost use Rattle.b2_top.specs.declared.mode.Mode.TheVariants.{Build, Look, Explain, Clean, Drill};
+ghost use Rattle.b2_top.specs.declared.mode.Mode.TheVariants.{Build, Look, Explain, Clean, Drill, Jam};
 ghost use Rattle.b2_source_laws.specs.AfterCleaning.{LeavesToBuild};
 ghost use Rattle.b2_program.specs.Called.{EndsWith};
 ghost use Rattle.b2_program.specs.Causes.{IsFailed, IsRefused, IsUsage, IsNoCommand, IsUsageStatus, IsSinkFault, IsDrillDone, IsCleanedFor};
@@ -34,7 +35,7 @@ fn run<H: Children, S: Sink>(alloc: Global, words: &[Text], host: &mut H, out: &
     status
 }
 
-/// Builds the project among the host's files, shows what it means, tells why its steps are to run, removes what they made, or runs a
+/// Builds the project among the host's files, or targets of one Jam file, shows what the project means, tells why its steps are to run, removes what they made, or runs a
 /// drill over files in memory, as the words ask for; what it has to say goes to the sink. Gives the exit status of the answer, from 0 to 6.
 pub fn run_program<H: Children, S: Sink>(
     alloc: Global,
@@ -53,6 +54,9 @@ pub fn run_program<H: Children, S: Sink>(
     // The headline: after a build with status 0 each wanted file has the bytes of the clean build of the sources at entry.
     ensures clean { mode_of words.now ≡ Build → result ≡ 0
         → CleanTold H.made words.now (H.outside host.old) (H.outside host.new) }
+    // The same of plain Jam mode.
+    ensures built { mode_of words.now ≡ Jam → result ≡ 0
+        → CleanFor H.made (jam_of words.now) (H.outside host.old) (H.outside host.new) }
     // After a look with status 0 exactly the lines of ECHO were written, and the table, or the steps with their texts, of
     // the plan.
     ensures shown { mode_of words.now ≡ Look → result ≡ 0

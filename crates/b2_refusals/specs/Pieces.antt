@@ -13,6 +13,10 @@ at_line path number text = path ++ codes ":" ++ decimal number ++ codes ": " ++ 
 abbrev pub size_text : List ℕ → ℕ → List ℕ
 size_text path size = path ++ codes " has " ++ decimal size ++ codes " bytes"
 
+-- more steps than there are numbers for
+abbrev pub steps_text : ℕ → List ℕ
+steps_text count = decimal count ++ codes " steps"
+
 -- texts with one between each two
 abbrev pub joined : List ℕ → List (List ℕ) → List ℕ
 joined between [] = []

@@ -20,13 +20,15 @@ use Rattle.jam_effects.specs.declared.fault.EvalCause.{EvalCause}
 use Rattle.jam_effects.specs.declared.fault.EvalCause.TheVariants as causes
 use Rattle.jam_effects.specs.declared.fault.EvalFault.{EvalFault}
 use Rattle.jam_effects.specs.declared.fault.EvalFault.TheVariants as evaluating
+use Rattle.jam_graph.specs.declared.fault.JamFault.{JamFault}
+use Rattle.jam_graph.specs.declared.fault.JamFault.TheVariants as jam
 use Rattle.jam_lexer.specs.declared.fault.LexFault.{LexFault}
 use Rattle.jam_lexer.specs.declared.fault.LexFault.TheVariants as lexing
 use Rattle.jam_parser.specs.declared.fault.SyntaxFault.{SyntaxFault}
 use Rattle.jam_parser.specs.declared.fault.SyntaxFault.TheVariants as parsing
 use Rattle.jam_patterns.specs.declared.native_fault.NativeFault.{NativeFault}
 use Rattle.jam_patterns.specs.declared.native_fault.NativeFault.TheVariants as natives
-use Rattle.b2_refusals.specs.Pieces.{at_line, size_text, joined, with_arrows, props_text}
+use Rattle.b2_refusals.specs.Pieces.{at_line, size_text, steps_text, joined, with_arrows, props_text}
 
 -- ---- files
 
@@ -123,7 +125,7 @@ making_text (making.NoChain from to) = codes "no chain from " ++ from ++ codes "
 making_text (making.TwoChains from to first second) = codes "two chains from " ++ from ++ codes " to " ++ to ++ codes ": " ++ joined (codes " ") first ++ codes "; " ++ joined (codes " ") second
 making_text (making.PathClash path) = codes "path clash: " ++ path
 making_text (making.LocationOutside path) = codes "location outside: " ++ path
-making_text (making.TooManySteps count) = decimal count ++ codes " steps"
+making_text (making.TooManySteps count) = steps_text count
 making_text (making.Eval fault) = eval_text fault
 making_text making.OutOfMemory = []
 
@@ -134,3 +136,19 @@ gen_text (generating.UsageConflict target feature first second) = codes "usage c
 gen_text (generating.NotChosen fault) = choice_text fault
 gen_text (generating.NotMade fault) = making_text fault
 gen_text generating.OutOfMemory = []
+
+-- ---- plain Jam mode
+
+abbrev pub jam_text : JamFault → List ℕ
+jam_text (jam.NoFile path) = codes "no file " ++ path
+jam_text (jam.TooBig path size) = size_text path size
+jam_text (jam.Lex path fault) = lex_text path fault
+jam_text (jam.Syntax path fault) = syntax_fault_text path fault
+jam_text (jam.Eval fault) = eval_text fault
+jam_text (jam.NoTarget name) = codes "no target " ++ name
+jam_text (jam.MixedNotFile target) = codes "notfile and file in one action: " ++ target
+jam_text (jam.PathClash path) = codes "path clash: " ++ path
+jam_text (jam.LocationOutside path) = codes "location outside: " ++ path
+jam_text (jam.TooManySteps count) = steps_text count
+jam_text jam.Host = []
+jam_text jam.OutOfMemory = []

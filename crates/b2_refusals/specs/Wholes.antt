@@ -15,6 +15,8 @@ use Rattle.b2_project_walk.specs.declared.fault.LoadFault.TheVariants as loading
 use Rattle.jam_effects.specs.Causes.{cause_of, IsWhole as IsWholeCause}
 use Rattle.jam_effects.specs.declared.fault.EvalFault.{EvalFault}
 use Rattle.jam_effects.specs.declared.fault.EvalFault.TheVariants as evaluating
+use Rattle.jam_graph.specs.declared.fault.JamFault.{JamFault}
+use Rattle.jam_graph.specs.declared.fault.JamFault.TheVariants as jam
 use Rattle.jam_lexer.specs.declared.fault.LexFault.TheVariants as lexing
 use Rattle.jam_parser.specs.declared.fault.SyntaxFault.TheVariants as parsing
 
@@ -48,8 +50,17 @@ IsGenRefusal (generating.NotChosen fault) = IsChoiceRefusal fault
 IsGenRefusal (generating.NotMade fault) = IsMakingRefusal fault
 IsGenRefusal _ = Unit {0}
 
+abbrev pub IsJamRefusal : JamFault → Type 0
+IsJamRefusal jam.Host = ⊥
+IsJamRefusal jam.OutOfMemory = ⊥
+IsJamRefusal (jam.Lex path fault) = fault ≢ lexing.OutOfMemory
+IsJamRefusal (jam.Syntax path fault) = fault ≢ parsing.OutOfMemory
+IsJamRefusal (jam.Eval fault) = IsEvalRefusal fault
+IsJamRefusal _ = Unit {0}
+
 abbrev pub IsWhole : Fault → Type 0
 IsWhole (faults.Load fault) = IsLoadRefusal fault
 IsWhole (faults.Request fault) = fault ≢ requesting.OutOfMemory
 IsWhole (faults.Gen fault) = IsGenRefusal fault
+IsWhole (faults.Jam fault) = IsJamRefusal fault
 IsWhole _ = Unit {0}

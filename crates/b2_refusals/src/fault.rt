@@ -5,6 +5,7 @@ use b2_generate::fault::GenFault;
 use b2_project_walk::fault::LoadFault;
 use b2_props::request_fault::RequestFault;
 use jam_effects::fault::EvalFault;
+use jam_graph::fault::JamFault;
 
 /// Why the program refuses what it is asked for. No fault within one is of the host or out of memory.
 #[derive(Drop)]
@@ -15,6 +16,8 @@ pub enum Fault {
     Request(RequestFault),
     /// The request has no plan.
     Gen(GenFault<EvalFault>),
+    /// The file of plain Jam mode has no graph, or its targets no plan.
+    Jam(JamFault),
     /// Each of these steps, by their numbers, needs an output of the next one, and the last one of the first.
     StepCycle { list: List<u32> },
     /// The file, which is to be scanned for includes or digested, has this many bytes, which are more than may be.

@@ -6,7 +6,7 @@ ghost use Rattle.b2_refusals.specs.Wholes.{IsChoiceRefusal, IsMakingRefusal, IsG
 
 use crate::evaluations::eval_text;
 use crate::lists::{joined, property_text, props_text, with_arrows};
-use crate::pieces::concat;
+use crate::pieces::{concat, steps_text};
 use b2_alternatives::fault::ChoiceFault;
 use b2_base::fault::OutOfMemory;
 use b2_base::text::Text;
@@ -115,12 +115,6 @@ fn two_chains_text(
     let from = from.as_str();
     let to = to.as_str();
     Ok(format!(in alloc; "two chains from {from} to {to}: {first}; {second}")?)
-}
-
-fn steps_text(alloc: Global, count: u32) -> Result<String, OutOfMemory>
-    ensures { IfOk result (λ text. string_bytes text ≡ making_text (MakingFault.TooManySteps count)) }
-{
-    Ok(format!(in alloc; "{count} steps")?)
 }
 
 /// The text of a main target whose steps are not made.

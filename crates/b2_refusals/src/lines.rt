@@ -6,6 +6,7 @@ ghost use Rattle.b2_refusals.specs.Wholes.{IsWhole};
 
 use crate::fault::Fault;
 use crate::generations::{gen_text, request_text};
+use crate::jam::jam_text;
 use crate::lists::{cycle_text, push_properties};
 use crate::loads::load_text;
 use crate::pieces::{concat, size_text};
@@ -18,7 +19,7 @@ use std::alloc::Global;
 pub fn usage_line() -> &'static str
     ensures { result.now ≡ usage_line }
 {
-    "b2: usage: b2 [-jN] [-a] [-q] [--by=digest] [-n, --show, --explain or --clean] [word ..], or b2 --drill=N\n"
+    "b2: usage: b2 [-jN] [-a] [-q] [--by=digest] [-n, --show, --explain or --clean] [word ..], or b2 -f FILE [target ..], or b2 --drill=N\n"
 }
 
 /// It takes no memory, so that it can be written after any fault, and does not say which call failed.
@@ -43,6 +44,7 @@ fn fault_text(alloc: Global, steps: &[Step], fault: &Fault) -> Result<String, Ou
         Fault::Load(fault) => load_text(alloc, fault),
         Fault::Request(fault) => request_text(alloc, fault),
         Fault::Gen(fault) => gen_text(alloc, fault),
+        Fault::Jam(fault) => jam_text(alloc, fault),
         Fault::StepCycle { list } => step_cycle_text(alloc, steps, list.as_slice()),
         Fault::TooBig { path, size } => size_text(alloc, path.as_str(), *size),
     }

@@ -38,7 +38,12 @@ fn feature_text(
     }
 }
 
-fn syntax_fault_text(alloc: Global, path: &str, fault: &SyntaxFault) -> Result<String, OutOfMemory>
+/// The text of a fault of syntax.
+pub fn syntax_fault_text(
+    alloc: Global,
+    path: &str,
+    fault: &SyntaxFault,
+) -> Result<String, OutOfMemory>
     requires { fault.now ≢ parsings.OutOfMemory }
     ensures { IfOk result (λ text. string_bytes text ≡ syntax_fault_text path.now fault.now) }
 {

@@ -1,6 +1,6 @@
 //! Pieces of texts.
 ghost use Rattle.std.specs.Prelude.{◌≡◌, ◌++◌, IfOk, string_bytes};
-ghost use Rattle.b2_refusals.specs.Pieces.{at_line, size_text};
+ghost use Rattle.b2_refusals.specs.Pieces.{at_line, size_text, steps_text};
 
 use b2_base::fault::OutOfMemory;
 use std::alloc::Global;
@@ -37,4 +37,11 @@ pub fn size_text(alloc: Global, path: &str, size: u64) -> Result<String, OutOfMe
     ensures { IfOk result (λ text. string_bytes text ≡ size_text path.now size) }
 {
     Ok(format!(in alloc; "{path} has {size} bytes")?)
+}
+
+/// What is said of more steps than there are numbers for.
+pub fn steps_text(alloc: Global, count: u32) -> Result<String, OutOfMemory>
+    ensures { IfOk result (λ text. string_bytes text ≡ steps_text count) }
+{
+    Ok(format!(in alloc; "{count} steps")?)
 }

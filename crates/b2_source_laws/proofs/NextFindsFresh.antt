@@ -69,6 +69,7 @@ module _ (one_meaning : OneMeaning) (made : Made) (words : List Word) (before af
       → MeetsPremises (update_for made plan first) disk later → SourcesStay plan.planned.roots disk.now later.now
   leaves plan first answers.Ok b end is meets = let (log, also, updated) = b.updated in built_leaves plan first log all_went b is also meets updated
   leaves plan first (answers.Failed lists) b end is meets = let (log, also, updated) = b.updated in built_leaves plan first log (failed (lists_of lists)) b is also meets updated
+  leaves plan first (answers.Refused (faults.Jam fault)) b end is meets = absurd end
   leaves plan first (answers.Refused (faults.StepCycle list)) b end is meets = let (log, also, updated) = b.updated in built_leaves plan first log (step_cycle list) b is also meets updated
   leaves plan first (answers.Refused (faults.Load fault)) b end is meets = absurd end
   leaves plan first (answers.Refused (faults.Request fault)) b end is meets = absurd end

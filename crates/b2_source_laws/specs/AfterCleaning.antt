@@ -70,6 +70,7 @@ abbrev pub IsHeldBack : Update → List ChildEvent → Fault → ℕ → Type 0
 IsHeldBack u events (faults.Load fault) i = IsOfPattern (faults.Load fault)
 IsHeldBack u events (faults.Request fault) i = IsOfPattern (faults.Request fault)
 IsHeldBack u events (faults.Gen fault) i = IsOfPattern (faults.Gen fault)
+IsHeldBack u events (faults.Jam fault) i = ⊥
 IsHeldBack u events (faults.StepCycle list) i = IsLeft u events i
 IsHeldBack u events (faults.TooBig path size) i = ⊤
 

@@ -1,6 +1,6 @@
 -- Whether the files and words came to a plan or stopped before it, the answer of a build is one that the call promises.
 use Rattle.std.proofs.Common.{◌≡◌, ℕ, List, [], Some, None, IfSome, Result, Ok, Err, refl, sym, ◌∙◌, subst}
-use Rattle.b2_top.proofs.OnlyPatternsRefuseAPlan.{whole_of, pattern_refused}
+use Rattle.b2_top.proofs.OnlyPatternsRefuseAPlan.{whole_for, pattern_refused}
 use Rattle.b2_top.proofs.WrittenBytesAreTold.{if_map}
 use Rattle.b2_top.specs.RefusalCauses.{fault_of, IsPatternRefused}
 use Rattle.b2_top.specs.Reports.{echo_lines}
@@ -18,6 +18,7 @@ use Rattle.b2_prepare.specs.declared.refusal.PlanRefusal.TheVariants as refusals
 use Rattle.b2_prepare.specs.declared.refusal.PlanStop.{PlanStop}
 use Rattle.b2_prepare.specs.declared.refusal.PlanStop.TheVariants as stops
 use Rattle.b2_request_plan.specs.Plans.{seen}
+use Rattle.b2_request_plan.specs.TableRows.{lines_of, rows_of}
 use Rattle.b2_request_plan.specs.declared.planned.Planned.{Planned}
 use Rattle.b2_host.specs.Disks.{Disk}
 use Rattle.b2_host.specs.Outside.{Outside}
@@ -30,14 +31,21 @@ use Rattle.b2_drain.specs.Drains.{Made}
 use Rattle.b2_update.specs.Moments.{moment}
 use Rattle.b2_command_line.specs.Words.{Word}
 use Rattle.b2_top.specs.Commands.{build_command}
+use Rattle.b2_top.specs.Askings.{Source.project, build_of}
 use Rattle.b2_top.specs.Plans.{HasPlan, options_of}
 use Rattle.b2_top.specs.Causes.{HasNoPlan}
 use Rattle.b2_top.specs.Reported.IsEarlyReport.{echoing}
 use Rattle.b2_top.specs.Reported.BeginsSome.{reporting}
 use Rattle.b2_top.specs.Running.{Runs, Calls}
 use Rattle.b2_top.specs.Running.Runs.{updates, stops as stops_echoing}
-use Rattle.b2_top.proofs.StillCallsAnswerAsPromised.{still_sink, still_memory, still_short, still_refused, still_fault}
+use Rattle.b2_top.proofs.StillCallsAnswerAsPromised.{IsEarly, still_sink, still_memory, still_short, still_refused, still_fault}
 use Rattle.b2_top.proofs.UpdatesAnswerAsPromised.{told_plan, ended}
+
+-- such a refusal comes before anything is started
+early_of : (why : PlanRefusal) → IsEarly (fault_of why)
+early_of (refusals.Load fault) = tt
+early_of (refusals.Request fault) = tt
+early_of (refusals.Generation fault) = tt
 
 module _ (law : OneMeaning) (made : Made) (words : List Word) (command : BuildCommand) (asked : build_command words ≡ Some command) (h0 h1 : Outside) (o0 : Output)
     (idle : h0.children.running ≡ []) (echoes : List Word) (disk_same : h1.disk ≡ h0.disk) (children_same : h1.children ≡ h0.children) where
@@ -69,17 +77,17 @@ module _ (law : OneMeaning) (made : Made) (words : List Word) (command : BuildCo
 
   pub stopped : (o1 : Output) (stop : PlanStop) (result : Answer) → Prepared (Err stop) → IfSome h0.disk (λ disk. LinesTold disk command.words echoes (Err stop)) → IsWholeStop stop → CountsStop stop h0 h1 → AnswersStop echoes stop o0 o1 result → Stopped o1 result
   stopped o1 (stops.Refused why) result told lines whole counts says =
-      still_refused made words h0 h1 o0 o1 idle still (λ none. not_none none) why echoes result (whole_of why whole) (λ none. not_none none) counts
+      still_refused made (build_of words) h0 h1 o0 o1 idle still (λ none. not_none none) (fault_of why) (early_of why) echoes result (whole_for why whole) (λ none. not_none none) counts
       (if_map h0.disk (cause_of why) told)
       (if_map h0.disk (λ disk h plan. subst (λ (c : BuildCommand). IsPatternRefused disk c.words (answers.Refused (fault_of why))) (sym (same_command disk plan))
       (pattern_refused law disk command.words plan.echoes echoes plan.planned (plan_means disk plan) why whole h)) told) says
   stopped o1 stops.HostInLoad result told lines whole counts says =
-      still_fault made words h0 h1 o0 o1 idle still (λ none. not_none none) command asked echoes lines counts result says
+      still_fault made (build_of words) h0 h1 o0 o1 idle still (λ none. not_none none) command asked echoes lines counts result says
   stopped o1 stops.HostInGeneration result told lines whole counts says =
-      still_fault made words h0 h1 o0 o1 idle still (λ none. not_none none) command asked echoes
+      still_fault made (build_of words) h0 h1 o0 o1 idle still (λ none. not_none none) command asked echoes
       (if_map h0.disk (λ disk has. loaded_begins disk command.words echoes has) lines) counts result says
   stopped o1 stops.OutOfMemory result told lines whole counts says =
-      subst (Stopped o1) (sym says.0) (still_short made words h0 h1 o0 o1 idle still (λ none. not_none none) says.1)
+      subst (Stopped o1) (sym says.0) (still_short made (build_of words) h0 h1 o0 o1 idle still (λ none. not_none none) says.1)
 
   -- ---- there is one
 
@@ -91,28 +99,30 @@ module _ (law : OneMeaning) (made : Made) (words : List Word) (command : BuildCo
     echoes_failed : (o1 : Output) (fault : IoFault) → Writes {T = Unit {0}} (echo_lines echoes) o0 o1 (Err fault) → Stopped o1 (unwritten fault)
     unfolding plan_at
     echoes_failed o1 io.Failed w =
-        still_sink made words h0 h1 o0 o1 idle still (λ none. not_none none) (echo_lines echoes) w same
+        still_sink made (build_of words) h0 h1 o0 o1 idle still (λ none. not_none none) (echo_lines echoes) w same
         (λ part front. if_map h0.disk (λ disk h. (echo_lines echoes, echoing (plan_at disk h) refl, front)) told)
     echoes_failed o1 io.OutOfMemory w =
-        still_memory made words h0 h1 o0 o1 idle still (λ none. not_none none) (echo_lines echoes) w
+        still_memory made (build_of words) h0 h1 o0 o1 idle still (λ none. not_none none) (echo_lines echoes) w
         (λ part front. if_map h0.disk (λ disk h. reporting (echo_lines echoes, echoing (plan_at disk h) refl, front)) told)
 
     pub run_of : (h2 : Outside) (o2 : Output) (result : Answer) → Runs made echoes (options_of command.options) planned.plan tests (moment h1 o0) (moment h2 o2) result
         → Calls made words (moment h0 o0) (moment h2 o2) result
-    run_of h2 o2 result (updates out echoed u) = ended made words (moment h0 o0) (moment h2 o2) u.out u.ended (record {
+    run_of h2 o2 result (updates out echoed u) = ended made (build_of words) (moment h0 o0) (moment h2 o2) u.out u.ended (record {
       command = command;
       asked = asked;
       loaded = h1;
       sink = out;
       echoes = echoes;
-      planned = planned;
+      plan = planned.plan;
+      rows = rows_of planned.table;
+      table = lines_of planned.table;
       tests = tests;
       disk_same = disk_same;
       children_same = children_same;
       same = same;
       keeps = keeps;
       apart = apart;
-      prepared = told_plan h0.disk command.words echoes planned tests told asks;
+      prepared = told_plan project h0.disk command.words echoes (seen planned) tests (if_map h0.disk (λ disk h. h.1) told) asks;
       echoed = echoed;
       out_keeps = u.out_keeps;
       caused = u.counts;

@@ -50,7 +50,7 @@ use Rattle.b2_top.specs.Cleans.{HasPlan, LeavesFiles, LeavesTold, IsTold, IsClea
 use Rattle.b2_top.specs.Cleans.CleansPlan.{cut as plan_cut, told as plan_told}
 use Rattle.b2_top.proofs.FaultsCountFromEarlier.{same_count, sink_failed_from}
 use Rattle.b2_top.proofs.LooksAnswerAsPromised.{is_of_planning}
-use Rattle.b2_top.proofs.OnlyPatternsRefuseAPlan.{whole_of, pattern_refused}
+use Rattle.b2_top.proofs.OnlyPatternsRefuseAPlan.{whole_for, pattern_refused}
 use Rattle.b2_top.proofs.PiecesWrittenMakeTheWhole.{written_none, front_more, front_after, keeps_written, keeps_failed}
 use Rattle.b2_top.proofs.WrittenBytesAreTold.{if_map, if_all, written_told, text_of, faults_of, has_cause}
 
@@ -250,7 +250,7 @@ module _ (law : OneMeaning) (words free : List Word) (asked : clean_words words 
         no_usage = λ e. absurd cc;
         usage_told = λ e. absurd cc;
         cause = if_map h0.disk (λ disk h. (echoes, no_plan disk h)) told;
-        whole = whole_of why input;
+        whole = whole_for why input;
         not_failed = is_of_planning why;
         complete = if_map h0.disk (λ disk h plan.
             inr (subst (λ (l : List Word). IsPatternRefused disk l (answers.Refused (fault_of why))) (sym (same_words disk plan))

@@ -28,7 +28,7 @@ use Rattle.b2_explain.specs.Faults.{ExplainCounts}
 use Rattle.b2_refusals.specs.declared.fault.Fault.{Fault}
 use Rattle.b2_refusals.specs.declared.fault.Fault.TheVariants as faults
 use Rattle.b2_refusals.specs.Lines.{usage_line}
-use Rattle.b2_refusals.specs.Wholes.{IsWhole}
+use Rattle.b2_top.specs.Askings.{IsProjectRefusal}
 use Rattle.b2_update.specs.Moments.{moment}
 use Rattle.b2_top.specs.declared.answer.Answer.{Answer}
 use Rattle.b2_top.specs.declared.answer.Answer.TheVariants as answers
@@ -46,7 +46,7 @@ use Rattle.b2_top.specs.Writing.Says.{said, failed, stopped}
 use Rattle.b2_top.specs.Writing.SaysFault.{fault_said, fault_failed, fault_stopped}
 use Rattle.b2_top.specs.Explains.{IsTooBigFor, HasPlan, IsTold, IsTooBigTold, IsReport, IsEchoed, CausedBy, IsOfExplaining, IsTooBigAnswer, IsAnswered, ExplainedBy, explained_report, TellsWhys, TellsPlan}
 use Rattle.b2_top.proofs.CausesAreReadFromLog.{still_keeps, counts_stay}
-use Rattle.b2_top.proofs.OnlyPatternsRefuseAPlan.{whole_of, pattern_refused}
+use Rattle.b2_top.proofs.OnlyPatternsRefuseAPlan.{whole_for, pattern_refused}
 use Rattle.b2_top.proofs.PiecesWrittenMakeTheWhole.{written_none, keeps_written, keeps_failed}
 use Rattle.b2_top.proofs.WrittenBytesAreTold.{if_map, if_all, written_told, text_of, faults_of, has_cause}
 
@@ -153,7 +153,7 @@ module _ (words : List Word) (h0 h1 : Outside) (o0 o1 : Output) (stays : Stays w
   }
 
   -- a refusal, whose report was written
-  ended_refused : (fault : Fault) (bytes : List ℕ) → o1 ≡ with_written bytes o0 → h1.faults ≡ h0.faults → (explain_command words ≡ None → ⊥) → IsWhole fault → IsOfExplaining fault
+  ended_refused : (fault : Fault) (bytes : List ℕ) → o1 ≡ with_written bytes o0 → h1.faults ≡ h0.faults → (explain_command words ≡ None → ⊥) → IsProjectRefusal fault → IsOfExplaining fault
       → IfSome h0.disk (CameToFault words fault bytes)
       → IfSome h0.disk (λ disk. (plan : HasPlan words disk) → IsOrCutShort (answers.Refused fault) answers.Ok ⊎ IsTooBigAnswer plan (answers.Refused fault) ⊎ IsPatternRefused disk plan.command.words (answers.Refused fault))
       → Promised (answers.Refused fault)
@@ -261,7 +261,7 @@ module _ (law : OneMeaning) (words : List Word) (command : ExplainCommand) (aske
     answered_refusal : (result : Answer) → Says (answers.Refused (fault_of why)) whole_refusal o0 o1 result → IsPromised result
     answered_refusal result told =
         says (answers.Refused (fault_of why)) whole_refusal result same (λ part front. if_map h0.disk (λ now h. begins_refused (fault_of why) whole_refusal (no_plan now h) front) came)
-        (λ p. ended_refused words h0 h1 o0 o1 it_stays (fault_of why) whole_refusal p same not_none (whole_of why input) (is_of_explaining why)
+        (λ p. ended_refused words h0 h1 o0 o1 it_stays (fault_of why) whole_refusal p same not_none (whole_for why input) (is_of_explaining why)
         (if_map h0.disk (λ now h. inl (no_plan now h)) came) (if_map h0.disk (λ now h plan. inr (inr (by_pattern now h plan))) came)) told
 
   -- the host failed

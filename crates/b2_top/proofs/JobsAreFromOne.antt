@@ -1,18 +1,20 @@
--- Words that ask for a build ask for one job or more, and for at most 64.
+-- Words that ask for a build ask for one job or more, and for at most 64. So do words of plain Jam mode.
 use Rattle.std.proofs.Common.{◌≡◌, ℕ, zero, suc, ◌≤◌, Bool, true, false, cond, List, [], ◌∷◌, codes, Option, Some, None, option_map, subst, arith}
 use Rattle.std.specs.Prelude.{⊤, filter, option_and_then}
 use Rattle.std.specs.List.{filter_map}
 use Rattle.std.specs.Option.{IfSome}
 use Rattle.std.specs.Str.{bytes_eq}
 use Rattle.std.specs.Fmt.{decimal}
-use Rattle.b2_command_line.specs.Words.{Word, Item, number, most_jobs, most_steps, jobs_meant, digest_meant, build_options, options_meant, command_meant, with_words, command_asked, meant, meaning, items, by_shape, after_lead, drill_reading, reading_by, reading, stand_once, first, stands, jobs_in, by_in, word_in, is_all, is_quit, is_steps, is_table, is_explain, is_clean}
+use Rattle.b2_command_line.specs.Words.{Word, Item, number, most_jobs, most_steps, jobs_meant, digest_meant, build_options, options_meant, command_meant, with_words, command_asked, meant, meaning, items, by_shape, after_lead, build_reading, drill_reading, reading_by, reading, stand_once, first, stands, jobs_in, by_in, word_in, is_all, is_quit, is_steps, is_table, is_explain, is_clean}
 use Rattle.b2_command_line.specs.declared.words.BuildOptions.{BuildOptions}
 use Rattle.b2_command_line.specs.declared.words.Command.{Command}
 use Rattle.b2_command_line.specs.declared.words.Command.TheVariants as commands
 use Rattle.b2_command_line.specs.declared.words.Words.{Words}
 use Rattle.b2_top.specs.declared.build_command.BuildCommand.{BuildCommand}
 use Rattle.b2_top.specs.Commands.{options_in, command_of, command_in, build_command}
-use Rattle.b2_top.specs.Laws.{FewJobs}
+use Rattle.b2_top.specs.Laws.{FewJobs, FewJamJobs}
+use Rattle.b2_command_line.specs.JamWords.{jam_words, jam_meant, reading_file}
+use Rattle.b2_top.specs.Askings.{asking_in, jam_command_of, jam_of}
 
 -- a number is from 1 to the greatest
 abbrev IsUpTo : ℕ → ℕ → Type 0
@@ -130,3 +132,36 @@ some_job words command asked = (asked_jobs words command asked).0
 
 pub few_jobs : FewJobs
 few_jobs words command asked = (asked_jobs words command asked).1
+
+-- so do words of plain Jam mode
+jam_has : (file : Word) (free : List Word) (read : Command) → HasJob read → (command : BuildCommand) → (asking_in (jam_meant file free read)).command ≡ Some command → IsUpTo most_jobs command.options.jobs
+jam_has file free (commands.Build options) h command is =
+    let same : jam_command_of (jam_words file free options) ≡ command = cc in subst (λ (c : BuildCommand). IsUpTo most_jobs c.options.jobs) same h
+jam_has file free (commands.Look view) h command is = absurd cc
+jam_has file free (commands.Explain all) h command is = absurd cc
+jam_has file free commands.Clean h command is = absurd cc
+jam_has file free (commands.Drill steps) h command is = absurd cc
+
+rest_has : (file : Word) (found : Option Words) → Read found → (command : BuildCommand)
+    → (asking_in (option_and_then (λ (read : Words). jam_meant file read.words read.command) found)).command ≡ Some command → IsUpTo most_jobs command.options.jobs
+rest_has file None h command is = absurd cc
+rest_has file (Some read) h command is = jam_has file read.words read.command h command is
+
+file_has : (words : List Word) (command : BuildCommand) → (asking_in (reading_file words)).command ≡ Some command → IsUpTo most_jobs command.options.jobs
+file_has [] command is = absurd cc
+file_has ([] ∷ rest) command is = absurd cc
+file_has ((byte ∷ bytes) ∷ rest) command is = rest_has (byte ∷ bytes) (build_reading rest) (meaning_has (items by_shape rest)) command is
+
+lead_has : (is_lead : Bool) (rest : List Word) (command : BuildCommand) → (asking_in (cond is_lead (reading_file rest) None)).command ≡ Some command → IsUpTo most_jobs command.options.jobs
+lead_has true rest command is = file_has rest command is
+lead_has false rest command is = absurd cc
+
+jam_asked_jobs : (words : List Word) (command : BuildCommand) → (jam_of words).command ≡ Some command → IsUpTo most_jobs command.options.jobs
+jam_asked_jobs [] command is = absurd cc
+jam_asked_jobs (word ∷ rest) command is = lead_has (bytes_eq word (codes "-f")) rest command is
+
+pub jam_jobs : (words : List Word) (command : BuildCommand) → (jam_of words).command ≡ Some command → 1 ≤ command.options.jobs
+jam_jobs words command asked = (jam_asked_jobs words command asked).0
+
+pub few_jam_jobs : FewJamJobs
+few_jam_jobs words command asked = (jam_asked_jobs words command asked).1

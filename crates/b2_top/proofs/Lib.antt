@@ -9,7 +9,9 @@ mod StillCallsAnswerAsPromised
 mod VerdictsAreWritten
 mod UpdatesAnswerAsPromised
 mod BuildsAnswerAsPromised
+mod FilesAnswerAsPromised
 mod PromisesFollowFromCalls
+pub mod AskingsAreLawful
 mod ModeIsFoundBeforeDashes
 mod LooksAnswerAsPromised
 mod CleansAnswerAsPromised

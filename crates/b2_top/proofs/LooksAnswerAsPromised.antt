@@ -37,7 +37,7 @@ use Rattle.b2_top.specs.Shows.BeginsReport.{usage, shown, refused}
 use Rattle.b2_top.specs.Shows.BeginsSome.{nothing, report, host_fault}
 use Rattle.b2_top.specs.Tells.{AnswersWith}
 use Rattle.b2_top.specs.BetweenMoments.{HostFailedBeforeReport}
-use Rattle.b2_top.proofs.OnlyPatternsRefuseAPlan.{whole_of, pattern_refused}
+use Rattle.b2_top.proofs.OnlyPatternsRefuseAPlan.{whole_for, pattern_refused}
 use Rattle.b2_top.proofs.PiecesWrittenMakeTheWhole.{keeps_written, keeps_failed}
 use Rattle.b2_top.proofs.WrittenBytesAreTold.{if_map, if_all, written_told, text_of, faults_of, has_cause}
 
@@ -208,7 +208,7 @@ module _ (law : OneMeaning) (words : List Word) (look : LookRequest) (asked : lo
       alone = λ none. not_none none;
       no_usage = λ e. absurd cc;
       usage_told = λ e. absurd cc;
-      whole = whole_of why input;
+      whole = whole_for why input;
       not_failed = is_of_planning why;
       complete = if_map h0.disk (λ disk h plan.
           inr (subst (λ (l : LookRequest). IsPatternRefused disk l.words (answers.Refused (fault_of why))) (sym (same_look disk plan))

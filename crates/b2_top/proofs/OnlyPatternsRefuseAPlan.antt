@@ -31,6 +31,7 @@ use Rattle.b2_prepare.specs.declared.refusal.PlanRefusal.TheVariants as refusals
 use Rattle.b2_prepare.specs.declared.refusal.PlanStop.TheVariants as stops
 use Rattle.b2_refusals.specs.Wholes.{IsEvalRefusal, IsLoadRefusal, IsChoiceRefusal, IsMakingRefusal, IsGenRefusal, IsWhole}
 use Rattle.b2_top.specs.declared.answer.Answer.TheVariants as answers
+use Rattle.b2_top.specs.Askings.{IsProjectRefusal}
 use Rattle.b2_top.specs.RefusalCauses.{fault_of, pattern_of_choice, pattern_of_making, pattern_of_generation, IsPatternRefused}
 
 none_some : {A : Type 0} (x : A) → None ≡ Some x → ⊥
@@ -94,6 +95,11 @@ pub whole_of : (why : PlanRefusal) → IsWholeRefusal why → IsWhole (fault_of 
 whole_of (refusals.Load fault) h = load_whole fault h
 whole_of (refusals.Request fault) h = request_whole fault h
 whole_of (refusals.Generation fault) h = generation_whole fault h
+
+pub whole_for : (why : PlanRefusal) → IsWholeRefusal why → IsProjectRefusal (fault_of why)
+whole_for (refusals.Load fault) h = load_whole fault h
+whole_for (refusals.Request fault) h = request_whole fault h
+whole_for (refusals.Generation fault) h = generation_whole fault h
 
 -- ---- where there is a plan, only a pattern can have been refused
 

@@ -15,9 +15,13 @@ use Rattle.b2_top.proofs.FaultsCountFromEarlier.{same_count, sink_failed_from}
 use Rattle.b2_top.specs.declared.answer.Answer.{Answer}
 use Rattle.b2_top.specs.declared.answer.Answer.TheVariants as answers
 use Rattle.b2_host.specs.OutputLaws.{OutKeeps, out_keeps_prints}
-use Rattle.b2_top.specs.Writing.{FailsIn, Writes, unwritten, Says, SaysFault}
+use Rattle.b2_top.specs.Writing.{FailsIn, Writes, unwritten, Says, SaysFault, AnswersJam}
 use Rattle.b2_top.specs.Writing.Says.{said, failed, stopped}
 use Rattle.b2_top.specs.Writing.SaysFault.{fault_said, fault_failed, fault_stopped}
+use Rattle.b2_refusals.specs.declared.fault.Fault.TheVariants as refusing
+use Rattle.jam_graph.specs.declared.fault.JamFault.{JamFault}
+use Rattle.jam_graph.specs.declared.fault.JamFault.TheVariants as jam
+use Rattle.b2_top.specs.Reports.{refusal_report}
 
 -- ---- bytes
 
@@ -177,3 +181,19 @@ keeps_failed bytes x y f = record {
   no_fault = λ none. absurd (true≢false (sym f.sink.may ∙ none));
   may_fail = f.may_fail;
 }
+
+-- why a Jam file and targets have no plan, unless the host failed or memory ran out
+pub jam_says : (echoes : List (List ℕ)) (fault : JamFault) (before after : Output) (result : Answer) → (fault ≡ jam.Host → ⊥) → (fault ≡ jam.OutOfMemory → ⊥)
+    → Says (answers.Refused (refusing.Jam fault)) (refusal_report echoes [] (refusing.Jam fault)) before after result → AnswersJam echoes fault before after result
+jam_says echoes (jam.NoFile path) before after result no_host no_memory h = h
+jam_says echoes (jam.TooBig path size) before after result no_host no_memory h = h
+jam_says echoes (jam.Lex path fault) before after result no_host no_memory h = h
+jam_says echoes (jam.Syntax path fault) before after result no_host no_memory h = h
+jam_says echoes (jam.Eval fault) before after result no_host no_memory h = h
+jam_says echoes (jam.NoTarget name) before after result no_host no_memory h = h
+jam_says echoes (jam.MixedNotFile target) before after result no_host no_memory h = h
+jam_says echoes (jam.PathClash path) before after result no_host no_memory h = h
+jam_says echoes (jam.LocationOutside path) before after result no_host no_memory h = h
+jam_says echoes (jam.TooManySteps count) before after result no_host no_memory h = h
+jam_says echoes jam.Host before after result no_host no_memory h = absurd (no_host refl)
+jam_says echoes jam.OutOfMemory before after result no_host no_memory h = absurd (no_memory refl)

@@ -1,20 +1,17 @@
 -- All that a call promises follows from what it does.
-use Rattle.std.proofs.Common.{◌≡◌, ◌⊎◌, ℕ, ◌≤◌, true, List, [], ◌∷◌, ◌++◌, length, Option, Some, None, IfSome, Result, Ok, inl, inr, refl, sym, ap, ◌∙◌, subst}
+use Rattle.std.proofs.Common.{◌≡◌, ◌⊎◌, ℕ, ◌≤◌, true, List, [], ◌∷◌, ◌++◌, length, Option, Some, None, IfSome, inl, inr, refl, sym, ap, ◌∙◌, subst}
 use Rattle.std.specs.List.{Contains}
 use Rattle.std.proofs.lemmas.List.Elements.{Contains-append_left}
 use Rattle.b2_top.proofs.DefinedBuildLacksNothing.{nothing_lacks, no_cycle}
-use Rattle.b2_top.proofs.JobsAreFromOne.{some_job}
 use Rattle.b2_top.proofs.StillCallsAnswerAsPromised.{same_rest, no_event}
 use Rattle.b2_top.proofs.TrueLinesAreStable.{line_stable}
 use Rattle.b2_top.proofs.UpdatesAnswerAsPromised.{both_follow}
-use Rattle.b2_top.specs.RefusalCauses.{IsPatternRefused}
 use Rattle.b2_top.specs.Endings.{IsOrCutShort, IfRefused}
 use Rattle.b2_top.specs.BetweenMoments.{StaysStill}
 use Rattle.b2_top.specs.declared.answer.Answer.{Answer}
 use Rattle.b2_top.specs.declared.answer.Answer.TheVariants as answers
 use Rattle.b2_top.specs.declared.build_command.BuildCommand.{BuildCommand}
-use Rattle.b2_prepare.specs.Laws.{OneMeaning}
-use Rattle.b2_prepare.specs.Meaning.{Refusal, Means}
+use Rattle.b2_top.specs.Askings.{Asking, ComesTo, ComesToOne, IsPatternRefusedIn}
 use Rattle.b2_generate.specs.Planning.{Planned}
 use Rattle.b2_host.specs.ChildProcesses.{Family, BothTold}
 use Rattle.b2_host.specs.Disks.{Folder, Disk, Past, IsConsistent, bytes_at}
@@ -49,11 +46,10 @@ use Rattle.b2_runs.proofs.TrueFileTells.{empty_file_is_true, file_true_as_past_g
 use Rattle.b2_runs.proofs.DiskStaysSound.{true_log_serves}
 use Rattle.b2_drain.specs.Drains.{Made}
 use Rattle.b2_endings.specs.Endings.{lists_of}
-use Rattle.b2_command_line.specs.Words.{Word}
-use Rattle.b2_top.specs.Plans.{HasPlan, options_of, update_at, update_for, MeetsPremises, TellsApart, making_by}
-use Rattle.b2_top.specs.Builds.{HasBuilt, HappenedBy, LeavesClean}
-use Rattle.b2_top.specs.Answered.{ShouldEndWell, AreFresh, AreKept, IsOfEnd, IsAnswered}
-use Rattle.b2_top.specs.Running.{OnlyPatternRefused, Calls}
+use Rattle.b2_top.specs.Plans.{HasPlanFor, options_of, update_at, update_for, MeetsPremises, TellsApartFor, making_by}
+use Rattle.b2_top.specs.Builds.{HasBuiltFor, HappenedFor, LeavesCleanFor}
+use Rattle.b2_top.specs.Answered.{ShouldEndWellFor, AreFresh, AreKept, IsOfEnd, IsAnsweredFor}
+use Rattle.b2_top.specs.Running.{OnlyPatternRefused, CallsFor}
 
 -- ---- logs
 
@@ -100,17 +96,18 @@ true_file m disk t = go (log_file disk.now) refl
 
 -- ---- what was done
 
-module _ (made : Made) (words : List Word) (before after : Outside) (disk later : Disk) where
+module _ (made : Made) (asking : Asking) (before after : Outside) (disk later : Disk) where
   -- nothing was done, or there is a plan and its update has ended
   abbrev Did : Type 0
-  Did = StaysStill before after ⊎ ((ended : UpdateAnswer) × HasBuilt made words before after disk later ended)
+  Did = StaysStill before after ⊎ ((ended : UpdateAnswer) × HasBuiltFor made asking before after disk later ended)
 
-  did : (result : Answer) → HappenedBy made words before after disk later result → Did
+  did : (result : Answer) → HappenedFor made asking before after disk later result → Did
   did answers.Ok h = inr (all_went, h)
   did (answers.Failed lists) h = inr (some_failed (lists_of lists), h)
   did (answers.Refused (faults.Load fault)) h = inl h.0
   did (answers.Refused (faults.Request fault)) h = inl h.0
   did (answers.Refused (faults.Gen fault)) h = inl h.0
+  did (answers.Refused (faults.Jam fault)) h = inl h.0
   did (answers.Refused (faults.StepCycle list)) h = inr (step_cycle list, h)
   did (answers.Refused (faults.TooBig path size)) h = inr (too_big path size, h)
   did answers.Usage h = inl h.0
@@ -122,22 +119,22 @@ module _ (made : Made) (words : List Word) (before after : Outside) (disk later 
   did answers.SinkFault (inr b) = inr (b.0, b.1)
 
 -- What is seen of a call: what happened, that the files stand among what stood, and that nothing is forgotten.
-record IsSeen (made : Made) (words : List Word) (before after : Outside) (result : Answer) (disk later : Disk) : Type 0 where
+record IsSeen (made : Made) (asking : Asking) (before after : Outside) (result : Answer) (disk later : Disk) : Type 0 where
   pub shows : before.disk ≡ Some disk
   pub shows_now : after.disk ≡ Some later
-  pub happened : HappenedBy made words before after disk later result
+  pub happened : HappenedFor made asking before after disk later result
   pub consistent : IsConsistent disk
   pub consistent_now : IsConsistent later
   pub grows : (old : Past) → Contains disk.past old → Contains later.past old
-  pub patterns : IfRefused (OnlyPatternRefused words disk) result
+  pub patterns : IfRefused (OnlyPatternRefused asking disk) result
 
-all_seen : (made : Made) (words : List Word) (before after : Outside) (result : Answer) → BothTold (λ disk later. HappenedBy made words before after disk later result) before.disk after.disk
+all_seen : (made : Made) (asking : Asking) (before after : Outside) (result : Answer) → BothTold (λ disk later. HappenedFor made asking before after disk later result) before.disk after.disk
     → IfSome before.disk IsConsistent → IfSome after.disk IsConsistent → BothTold BeginsPast before.disk after.disk
-    → IfSome before.disk (λ disk. IfRefused (OnlyPatternRefused words disk) result) → BothTold (IsSeen made words before after result) before.disk after.disk
-all_seen made words before after result happened consistent now past patterns = go before.disk after.disk refl refl happened consistent now past patterns
+    → IfSome before.disk (λ disk. IfRefused (OnlyPatternRefused asking disk) result) → BothTold (IsSeen made asking before after result) before.disk after.disk
+all_seen made asking before after result happened consistent now past patterns = go before.disk after.disk refl refl happened consistent now past patterns
   where
-    go : (d e : Option Disk) → before.disk ≡ d → after.disk ≡ e → BothTold (λ disk later. HappenedBy made words before after disk later result) d e → IfSome d IsConsistent → IfSome e IsConsistent
-        → BothTold BeginsPast d e → IfSome d (λ disk. IfRefused (OnlyPatternRefused words disk) result) → BothTold (IsSeen made words before after result) d e
+    go : (d e : Option Disk) → before.disk ≡ d → after.disk ≡ e → BothTold (λ disk later. HappenedFor made asking before after disk later result) d e → IfSome d IsConsistent → IfSome e IsConsistent
+        → BothTold BeginsPast d e → IfSome d (λ disk. IfRefused (OnlyPatternRefused asking disk) result) → BothTold (IsSeen made asking before after result) d e
     go None None shows shows_now h c n p r = tt
     go None (Some later) shows shows_now h c n p r = h
     go (Some disk) None shows shows_now h c n p r = h
@@ -153,32 +150,34 @@ all_seen made words before after result happened consistent now past patterns = 
 
 -- ---- plans
 
-module _ (law : OneMeaning) (made : Made) (words : List Word) (disk : Disk) where
-  one_command : (p q : HasPlan words disk) → p.command ≡ q.command
+-- what is asked for comes to one plan, with one job or more
+abbrev pub IsLawful : Asking → Type 0
+IsLawful asking = ComesToOne asking.source × ((command : BuildCommand) → asking.command ≡ Some command → 1 ≤ command.options.jobs)
+
+module _ (asking : Asking) (law : IsLawful asking) (made : Made) (disk : Disk) where
+  one_command : (p q : HasPlanFor asking disk) → p.command ≡ q.command
   one_command p q = let e : Some p.command ≡ Some q.command = sym p.asked ∙ q.asked in cc
 
-  one_plan : (p q : HasPlan words disk) → p.planned ≡ q.planned
+  one_plan : (p q : HasPlanFor asking disk) → p.planned ≡ q.planned
   one_plan p q =
-      let means = subst (λ (c : BuildCommand). Means disk None c.words p.echoes (Ok p.planned)) (one_command p q) p.means in
-      let one = law disk None q.command.words p.echoes q.echoes (Ok p.planned) (Ok q.planned) means q.means in
-      let e : ◌≡◌ {A = Result Planned Refusal} (Ok p.planned) (Ok q.planned) = one.1 in
-      cc
+      let means = subst (λ (c : BuildCommand). ComesTo asking.source disk c.words p.echoes p.planned) (one_command p q) p.means in
+      law.0 disk q.command.words p.echoes q.echoes p.planned q.planned means q.means
 
   abbrev at : BuildCommand → Planned → List LogLine → Update
   at command planned log = update_at made (options_of command.options) planned disk.now log
 
   -- words and files come to one update
-  one_update : (p q : HasPlan words disk) (log : List LogLine) → update_for made p log ≡ update_for made q log
+  one_update : (p q : HasPlanFor asking disk) (log : List LogLine) → update_for made p log ≡ update_for made q log
   one_update p q log = ap (λ (c : BuildCommand). at c p.planned log) (one_command p q) ∙ ap (λ (planned : Planned). at q.command planned log) (one_plan p q)
 
   -- what is true of the log serves the update
-  premised : (p : HasPlan words disk) (log : List LogLine) (later : Disk) → IsTrueOn (making_by made) disk → TellsApart words later.past → MeetsPremises (update_for made p log) disk later
+  premised : (p : HasPlanFor asking disk) (log : List LogLine) (later : Disk) → IsTrueOn (making_by made) disk → TellsApartFor asking.command later.past → MeetsPremises (update_for made p log) disk later
   premised p log later t tells = record { uses_true = true_log_serves (update_for made p log) disk t; distinct = λ on. tells p.command p.asked on }
 
 -- ---- an update that has ended
 
-module _ (law : OneMeaning) (made : Made) (words : List Word) (before after : Outside) (result : Answer) (disk later : Disk) (s : IsSeen made words before after result disk later)
-    (ended : UpdateAnswer) (b : HasBuilt made words before after disk later ended) (log : List LogLine) (is_log : IsLogIn disk.now log)
+module _ (asking : Asking) (law : IsLawful asking) (made : Made) (before after : Outside) (result : Answer) (disk later : Disk) (s : IsSeen made asking before after result disk later)
+    (ended : UpdateAnswer) (b : HasBuiltFor made asking before after disk later ended) (log : List LogLine) (is_log : IsLogIn disk.now log)
     (p : MeetsPremises (update_for made b.plan log) disk later) where
   abbrev u : Update
   u = update_for made b.plan log
@@ -210,15 +209,15 @@ no_start (event ∷ front) rest k e = cc
 
 -- ---- all that is promised
 
-module _ (law : OneMeaning) (made : Made) (words : List Word) (before after : Outside) (result : Answer) where
+module _ (asking : Asking) (law : IsLawful asking) (made : Made) (before after : Outside) (result : Answer) where
   abbrev Seen : Disk → Disk → Type 0
-  Seen = IsSeen made words before after result
+  Seen = IsSeen made asking before after result
 
   -- a clean build
-  is_clean : result ≡ answers.Ok → (disk later : Disk) → Seen disk later → LeavesClean made words disk later
-  is_clean e disk later s = of_built (subst (λ r. HappenedBy made words before after disk later r) e s.happened)
+  is_clean : result ≡ answers.Ok → (disk later : Disk) → Seen disk later → LeavesCleanFor made asking disk later
+  is_clean e disk later s = of_built (subst (λ r. HappenedFor made asking before after disk later r) e s.happened)
     where
-      of_built : HasBuilt made words before after disk later all_went → LeavesClean made words disk later
+      of_built : HasBuiltFor made asking before after disk later all_went → LeavesCleanFor made asking disk later
       of_built b = record { plan = b.plan; log = b.updated.0; is_log = b.updated.1; clean = λ p. (b.updated.2 p).told.2 }
 
   -- a true log
@@ -228,29 +227,29 @@ module _ (law : OneMeaning) (made : Made) (words : List Word) (before after : Ou
       let same : disk ≡ later = cc in
       subst (IsTrueOn (making_by made)) same t
 
-  is_true : (disk later : Disk) → Seen disk later → TellsApart words later.past → IsTrueOn (making_by made) disk → IsTrueOn (making_by made) later
-  is_true disk later s tells t = elim (did made words before after disk later result s.happened) [
+  is_true : (disk later : Disk) → Seen disk later → TellsApartFor asking.command later.past → IsTrueOn (making_by made) disk → IsTrueOn (making_by made) later
+  is_true disk later s tells t = elim (did made asking before after disk later result s.happened) [
     | inl still ↦ still_true disk later s still t
     | inr done ↦ λ log is line c. line_stable (making_by made) later.past s.consistent_now.one_each line (λ not_true.
         some_log disk.now (λ first is_first. not_true
-        (cut_is_true law made words before after result disk later s done.0 done.1 first is_first (premised law made words disk done.1.plan first later t tells) t log is line c)))
+        (cut_is_true asking law made before after result disk later s done.0 done.1 first is_first (premised asking law made disk done.1.plan first later t tells) t log is line c)))
   ]
 
   -- the next update
-  module _ (disk later : Disk) (s : Seen disk later) (ended : UpdateAnswer) (b : HasBuilt made words before after disk later ended) (plan : HasPlan words disk) (first log : List LogLine)
+  module _ (disk later : Disk) (s : Seen disk later) (ended : UpdateAnswer) (b : HasBuiltFor made asking before after disk later ended) (plan : HasPlanFor asking disk) (first log : List LogLine)
       (events : List ChildEvent) (is_first : IsLogIn disk.now first) (p : MeetsPremises (update_for made plan first) disk later)
       (are : after.children.events ≡ before.children.events ++ events) (is_log : IsLogIn later.now log) (within : length (held_bytes (log_file later.now)) ≤ log_limit) where
     same_update : update_for made b.plan first ≡ update_for made plan first
-    same_update = one_update law made words disk b.plan plan first
+    same_update = one_update asking law made disk b.plan plan first
 
     own : MeetsPremises (update_for made b.plan first) disk later
     own = subst (λ u. MeetsPremises u disk later) (sym same_update) p
 
     abbrev h : HasUpdated (update_for made b.plan first) ended (record before { reads = b.reads }) after disk later
-    h = has law made words before after result disk later s ended b first is_first own
+    h = has asking law made before after result disk later s ended b first is_first own
 
     same : h.events ≡ events
-    same = same_events law made words before after result disk later s ended b first is_first own events are
+    same = same_events asking law made before after result disk later s ended b first is_first own events are
 
     -- a step whose outputs were settled is fresh
     fresh : HasEnded (update_for made b.plan first) h.events later.now → AreFresh (update_for made plan first) events later.now log
@@ -258,7 +257,7 @@ module _ (law : OneMeaning) (made : Made) (words : List Word) (before after : Ou
         let u = update_for made b.plan first in
         let here : AreFresh u h.events later.now log = λ quit jobs i step path makes settled calm.
         fresh_afterwards u h.events later log quit jobs i step path b.apart e.run.each
-        (sound law made words before after result disk later s ended b first is_first own)
+        (sound asking law made before after result disk later s ended b first is_first own)
         (subst (λ l. IsNoted u h.events later.now l) (one_log later.now e.log log e.is_log is_log) (e.noted within)) makes settled calm
         in
         subst (λ (v : Update). AreFresh v events later.now log) same_update (subst (λ es. AreFresh u es later.now log) same here)
@@ -276,13 +275,13 @@ module _ (law : OneMeaning) (made : Made) (words : List Word) (before after : Ou
         in
         subst (λ (v : Update). AreKept v events later.now log) same_update (subst (λ es. AreKept u es later.now log) same here)
 
-  are_fresh : IsOfEnd result → (disk later : Disk) → Seen disk later → (plan : HasPlan words disk) (first log : List LogLine)
+  are_fresh : IsOfEnd result → (disk later : Disk) → Seen disk later → (plan : HasPlanFor asking disk) (first log : List LogLine)
       (events : List ChildEvent) → IsLogIn disk.now first → MeetsPremises (update_for made plan first) disk later
       → after.children.events ≡ before.children.events ++ events
       → IsLogIn later.now log → length (held_bytes (log_file later.now)) ≤ log_limit → AreFresh (update_for made plan first) events later.now log
   are_fresh end disk later s plan first log events is_first p are is_log within = go result refl end s.happened
     where
-      go : (r : Answer) → result ≡ r → IsOfEnd r → HappenedBy made words before after disk later r → AreFresh (update_for made plan first) events later.now log
+      go : (r : Answer) → result ≡ r → IsOfEnd r → HappenedFor made asking before after disk later r → AreFresh (update_for made plan first) events later.now log
       go answers.Ok e end b =
           fresh disk later s all_went b plan first log events is_first p are is_log within (h disk later s all_went b plan first log events is_first p are is_log within).told.0
       go (answers.Failed lists) e end b =
@@ -290,6 +289,7 @@ module _ (law : OneMeaning) (made : Made) (words : List Word) (before after : Ou
       go (answers.Refused (faults.Load fault)) e end b = absurd end
       go (answers.Refused (faults.Request fault)) e end b = absurd end
       go (answers.Refused (faults.Gen fault)) e end b = absurd end
+      go (answers.Refused (faults.Jam fault)) e end b = absurd end
       go (answers.Refused (faults.StepCycle list)) e end b =
           fresh disk later s (step_cycle list) b plan first log events is_first p are is_log within (h disk later s (step_cycle list) b plan first log events is_first p are is_log within).told.0
       go (answers.Refused (faults.TooBig path size)) e end b = absurd end
@@ -298,11 +298,11 @@ module _ (law : OneMeaning) (made : Made) (words : List Word) (before after : Ou
       go answers.OutOfMemory e end b = absurd end
       go answers.SinkFault e end b = absurd end
 
-  are_kept : (disk later : Disk) → Seen disk later → (plan : HasPlan words disk) (first log : List LogLine)
+  are_kept : (disk later : Disk) → Seen disk later → (plan : HasPlanFor asking disk) (first log : List LogLine)
       (events : List ChildEvent) → IsLogIn disk.now first → MeetsPremises (update_for made plan first) disk later
       → after.children.events ≡ before.children.events ++ events
       → IsLogIn later.now log → length (held_bytes (log_file later.now)) ≤ log_limit → AreKept (update_for made plan first) events later.now log
-  are_kept disk later s plan first log events is_first p are is_log within = elim (did made words before after disk later result s.happened) [
+  are_kept disk later s plan first log events is_first p are is_log within = elim (did made asking before after disk later result s.happened) [
     | inl still ↦ λ quit jobs k i front rest step members split done at file closure.
         let none = no_event before.children.events events (ap (λ (f : Family). f.events) (sym still.children) ∙ are) in
         absurd (no_start front rest k (sym none ∙ split))
@@ -310,25 +310,25 @@ module _ (law : OneMeaning) (made : Made) (words : List Word) (before after : Ou
   ]
 
   -- what should end well does
-  module _ (disk later : Disk) (s : Seen disk later) (should : ShouldEndWell made words before after disk later) where
+  module _ (disk later : Disk) (s : Seen disk later) (should : ShouldEndWellFor made asking before after disk later) where
     abbrev Goal : Answer → Type 0
-    Goal r = IsOrCutShort r answers.Ok ⊎ IsPatternRefused disk should.plan.command.words r
+    Goal r = IsOrCutShort r answers.Ok ⊎ IsPatternRefusedIn asking.source disk should.plan.command.words r
 
-    module _ (ended : UpdateAnswer) (b : HasBuilt made words before after disk later ended) where
+    module _ (ended : UpdateAnswer) (b : HasBuiltFor made asking before after disk later ended) where
       abbrev done_update : Update
       done_update = update_for made b.plan should.log
 
       is_should : done_update ≡ update_for made should.plan should.log
-      is_should = one_update law made words disk b.plan should.plan should.log
+      is_should = one_update asking law made disk b.plan should.plan should.log
 
       met : MeetsPremises done_update disk later
       met = subst (λ v. MeetsPremises v disk later) (sym is_should) should.premises
 
       abbrev updated : HasUpdated done_update ended (record before { reads = b.reads }) after disk later
-      updated = has law made words before after result disk later s ended b should.log should.is_log met
+      updated = has asking law made before after result disk later s ended b should.log should.is_log met
 
       all_events : updated.events ≡ should.events
-      all_events = same_events law made words before after result disk later s ended b should.log should.is_log met should.events should.events_are
+      all_events = same_events asking law made before after result disk later s ended b should.log should.is_log met should.events should.events_are
 
       -- what is said of the plan and the events holds here
       here : (P : Update → List ChildEvent → Type 0) → P (update_for made should.plan should.log) should.events → P done_update updated.events
@@ -338,42 +338,43 @@ module _ (law : OneMeaning) (made : Made) (words : List Word) (before after : Ou
       none_failed : (i : ℕ) → IsFailed updated.events i → ⊥
       none_failed = here (λ v es. (i : ℕ) → IsFailed es i → ⊥) should.all_well
 
-    complete_by : (r : Answer) → HappenedBy made words before after disk later r → IfRefused (OnlyPatternRefused words disk) r → Goal r
+    complete_by : (r : Answer) → HappenedFor made asking before after disk later r → IfRefused (OnlyPatternRefused asking disk) r → Goal r
     complete_by answers.Ok b patterns = inl (inl refl)
     complete_by (answers.Failed lists) b patterns =
         let a = some_failed (lists_of lists) in
         let told = (updated a b).told in
-        absurd (nothing_lacks (done_update a b) (updated a b).events b.apart (some_job words b.plan.command b.plan.asked) told.0.run (here a b CleanIsDefined should.defined)
+        absurd (nothing_lacks (done_update a b) (updated a b).events b.apart (law.1 b.plan.command b.plan.asked) told.0.run (here a b CleanIsDefined should.defined)
         (none_failed a b) (lists_of lists) told.2 told.3)
     complete_by (answers.Refused (faults.Load fault)) b patterns = inr (patterns should.plan)
     complete_by (answers.Refused (faults.Request fault)) b patterns = inr (patterns should.plan)
     complete_by (answers.Refused (faults.Gen fault)) b patterns = inr (patterns should.plan)
+    complete_by (answers.Refused (faults.Jam fault)) b patterns = inr (patterns should.plan)
     complete_by (answers.Refused (faults.StepCycle list)) b patterns =
         let a = step_cycle list in
         let told = (updated a b).told in
-        absurd (no_cycle (done_update a b) (updated a b).events b.apart (some_job words b.plan.command b.plan.asked) told.0.run (here a b CleanIsDefined should.defined)
+        absurd (no_cycle (done_update a b) (updated a b).events b.apart (law.1 b.plan.command b.plan.asked) told.0.run (here a b CleanIsDefined should.defined)
         (none_failed a b) list told.1)
     complete_by (answers.Refused (faults.TooBig path size)) b patterns =
         let a = too_big path size in
         absurd (nothing_too_big (done_update a b) (updated a b).events later path size b.apart
-        (sound law made words before after result disk later s a b should.log should.is_log (met a b)) (here a b NoneLarge should.none_large) (updated a b).told)
+        (sound asking law made before after result disk later s a b should.log should.is_log (met a b)) (here a b NoneLarge should.none_large) (updated a b).told)
     complete_by answers.Usage b patterns = absurd (let clash : None ≡ Some should.plan.command = sym b.1 ∙ should.plan.asked in cc)
     complete_by answers.HostFault b patterns = inl (inr (inl refl))
     complete_by answers.OutOfMemory b patterns = inl (inr (inr (inr refl)))
     complete_by answers.SinkFault b patterns = inl (inr (inr (inl refl)))
 
-  is_complete : (disk later : Disk) → Seen disk later → (should : ShouldEndWell made words before after disk later)
-      → IsOrCutShort result answers.Ok ⊎ IsPatternRefused disk should.plan.command.words result
+  is_complete : (disk later : Disk) → Seen disk later → (should : ShouldEndWellFor made asking before after disk later)
+      → IsOrCutShort result answers.Ok ⊎ IsPatternRefusedIn asking.source disk should.plan.command.words result
   is_complete disk later s should = complete_by disk later s should result s.happened s.patterns
 
-pub all_promised : OneMeaning → (made : Made) (words : List Word) (before after : Moment) (result : Answer) → Calls made words before after result → Keeps before.host after.host
-    → IfSome before.host.disk IsConsistent → IfSome after.host.disk IsConsistent → IsAnswered made words before after result
-all_promised law made words before after result c keeps consistent now =
-    let seen = all_seen made words before.host after.host result c.happened consistent now keeps.files c.patterns in
+pub all_promised : (asking : Asking) → IsLawful asking → (made : Made) (before after : Moment) (result : Answer) → CallsFor made asking before after result → Keeps before.host after.host
+    → IfSome before.host.disk IsConsistent → IfSome after.host.disk IsConsistent → IsAnsweredFor made asking before after result
+all_promised asking law made before after result c keeps consistent now =
+    let seen = all_seen made asking before.host after.host result c.happened consistent now keeps.files c.patterns in
     let d = before.host.disk in
     let e = after.host.disk in
     record {
-      clean = λ ok. both_follow d e (is_clean law made words before.host after.host result ok) seen;
+      clean = λ ok. both_follow d e (is_clean asking law made before.host after.host result ok) seen;
       happened = c.happened;
       counts = c.counts;
       usage = c.usage;
@@ -382,12 +383,12 @@ all_promised law made words before after result c keeps consistent now =
       usage_told = c.usage_told;
       starts_none = c.starts_none;
       whole = c.whole;
-      complete = both_follow d e (is_complete law made words before.host after.host result) seen;
+      complete = both_follow d e (is_complete asking law made before.host after.host result) seen;
       reported = c.reported;
       turns = c.turns;
       left_open = c.left_open;
-      true_log = both_follow d e (is_true law made words before.host after.host result) seen;
-      afterwards = λ end. both_follow d e (are_fresh law made words before.host after.host result end) seen;
-      kept = both_follow d e (are_kept law made words before.host after.host result) seen;
+      true_log = both_follow d e (is_true asking law made before.host after.host result) seen;
+      afterwards = λ end. both_follow d e (are_fresh asking law made before.host after.host result end) seen;
+      kept = both_follow d e (are_kept asking law made before.host after.host result) seen;
       out_keeps = c.out_keeps;
     }

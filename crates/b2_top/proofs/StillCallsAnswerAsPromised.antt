@@ -4,7 +4,6 @@ use Rattle.std.specs.List.{Contains}
 use Rattle.std.specs.Option.{option_map}
 use Rattle.b2_top.proofs.WrittenBytesAreTold.{if_map, if_all, text_of, faults_of}
 use Rattle.b2_top.proofs.PiecesWrittenMakeTheWhole.{written_none, keeps_written, keeps_failed}
-use Rattle.b2_top.specs.RefusalCauses.{fault_of, IsPatternRefused}
 use Rattle.b2_top.specs.Reports.{refusal_report, fault_report}
 use Rattle.b2_top.specs.BetweenMoments.{HostFailedBeforeReport, StaysStill}
 use Rattle.b2_top.specs.Writing.{FailsIn, StopsIn, Says, SaysFault}
@@ -13,8 +12,6 @@ use Rattle.b2_top.specs.Writing.SaysFault.{fault_said, fault_failed, fault_stopp
 use Rattle.b2_top.specs.declared.answer.Answer.{Answer}
 use Rattle.b2_top.specs.declared.answer.Answer.TheVariants as answers
 use Rattle.b2_top.specs.declared.build_command.BuildCommand.{BuildCommand}
-use Rattle.b2_prepare.specs.declared.refusal.PlanRefusal.{PlanRefusal}
-use Rattle.b2_prepare.specs.declared.refusal.PlanRefusal.TheVariants as refusals
 use Rattle.b2_host.specs.ChildProcesses.{Family, BothTold}
 use Rattle.b2_host.specs.Disks.{Disk}
 use Rattle.b2_base.specs.Counts.{Rose}
@@ -25,23 +22,24 @@ use Rattle.b2_host.specs.OutputLaws.{OutKeeps}
 use Rattle.b2_host.specs.declared.children.ChildEvent.{ChildEvent}
 use Rattle.b2_host.specs.declared.children.ChildEvent.TheVariants.{Start}
 use Rattle.b2_refusals.specs.Lines.{usage_line}
-use Rattle.b2_refusals.specs.Wholes.{IsWhole}
+use Rattle.b2_top.specs.Askings.{IsWholeFor}
+use Rattle.b2_refusals.specs.declared.fault.Fault.{Fault}
+use Rattle.b2_refusals.specs.declared.fault.Fault.TheVariants as faults
 use Rattle.b2_runs.specs.Events.{ShortTold}
 use Rattle.b2_runs.specs.PlanChildren.{AreOfOpenSteps}
 use Rattle.b2_runs.specs.UpdateAnswers.{UpdateAnswer.all_went, failed_of}
 use Rattle.b2_drain.specs.Drains.{Made}
 use Rattle.b2_update.specs.Moments.{moment}
 use Rattle.b2_command_line.specs.Words.{Word}
-use Rattle.b2_top.specs.Commands.{build_command}
-use Rattle.b2_top.specs.Plans.{HasPlan}
-use Rattle.b2_top.specs.Causes.{HasNoPlan}
-use Rattle.b2_top.specs.Builds.{RefusedBy, run_answer}
-use Rattle.b2_prepare.specs.Meaning.{BeginLoad}
+use Rattle.b2_top.specs.Askings.{Asking, BeginsLoad, IsPatternRefusedIn}
+use Rattle.b2_top.specs.Plans.{HasPlanFor}
+use Rattle.b2_top.specs.Causes.{HasNoPlanFor}
+use Rattle.b2_top.specs.Builds.{RefusedFor, run_answer}
 use Rattle.b2_top.specs.Reported.{IsRefusalReport, IsFaultReport, BeginsEarly, BeginsSome, WroteEarly, RefusalTold, TellsFault}
 use Rattle.b2_top.specs.Reported.IsEarlyReport.{usage, refusal}
 use Rattle.b2_top.specs.Reported.BeginsSome.{nothing, reporting, faulting}
-use Rattle.b2_top.specs.Answered.{TurnsTold, LeftOpenTold, RefusedStill}
-use Rattle.b2_top.specs.Running.{OnlyPatternRefused, Calls}
+use Rattle.b2_top.specs.Answered.{TurnsFor, LeftOpenTold, RefusedStill}
+use Rattle.b2_top.specs.Running.{OnlyPattern, OnlyPatternRefused, CallsFor}
 
 -- ---- lists
 
@@ -82,10 +80,19 @@ none_open = record {
   whole = λ i open_step. absurd (not_in (Start i) open_step.0);
 }
 
-module _ (made : Made) (words : List Word) (h0 h1 : Outside) (o0 o1 : Output) (idle : h0.children.running ≡ []) (still : StaysStill h0 h1)
-    (alone : build_command words ≡ None → h1 ≡ h0) where
+-- the refusal comes before anything is started
+abbrev pub IsEarly : Fault → Type 0
+IsEarly (faults.Load fault) = Unit {0}
+IsEarly (faults.Request fault) = Unit {0}
+IsEarly (faults.Gen fault) = Unit {0}
+IsEarly (faults.Jam fault) = Unit {0}
+IsEarly (faults.StepCycle list) = ⊥
+IsEarly (faults.TooBig path size) = ⊥
+
+module _ (made : Made) (asking : Asking) (h0 h1 : Outside) (o0 o1 : Output) (idle : h0.children.running ≡ []) (still : StaysStill h0 h1)
+    (alone : asking.command ≡ None → h1 ≡ h0) where
   abbrev Promised : Answer → Type 0
-  Promised = Calls made words (moment h0 o0) (moment h1 o1)
+  Promised = CallsFor made asking (moment h0 o0) (moment h1 o1)
 
   both_still : (Q : Disk → Disk → Type 0) → IfSome h0.disk (λ disk. Q disk disk) → BothTold Q h0.disk h1.disk
   both_still Q h = subst (λ e. BothTold Q h0.disk e) (sym still.disk) (both_same Q h0.disk h)
@@ -98,7 +105,7 @@ module _ (made : Made) (words : List Word) (h0 h1 : Outside) (o0 o1 : Output) (i
   early bytes Holds e h events are =
       (still, no_event h0.children.events events (sym same_events ∙ are), wrote bytes Holds o0.written o1.written e h)
 
-  no_turns : (result : Answer) → (run_answer result ≡ all_went → ⊥) → failed_of (run_answer result) ≡ [] → TurnsTold words h0 h1 result
+  no_turns : (result : Answer) → (run_answer result ≡ all_went → ⊥) → failed_of (run_answer result) ≡ [] → TurnsFor asking.command h0 h1 result
   no_turns result not_all none command asked = (
     [],
     record {
@@ -130,7 +137,7 @@ module _ (made : Made) (words : List Word) (h0 h1 : Outside) (o0 o1 : Output) (i
   -- ---- cut off
 
   pub still_sink : (bytes : List ℕ) → FailsIn bytes o0 o1 → h1.faults ≡ h0.faults
-      → ((part : List ℕ) → IsFrontOf part bytes → IfSome h0.disk (λ disk. BeginsEarly words disk part)) → Promised answers.SinkFault
+      → ((part : List ℕ) → IsFrontOf part bytes → IfSome h0.disk (λ disk. BeginsEarly asking disk part)) → Promised answers.SinkFault
   still_sink bytes f same begins = record {
     happened = both_still _ (if_all h0.disk (λ disk. inl still));
     counts = (f.sink, inl same);
@@ -141,13 +148,13 @@ module _ (made : Made) (words : List Word) (h0 h1 : Outside) (o0 o1 : Output) (i
     starts_none = tt;
     whole = tt;
     patterns = if_all h0.disk (λ disk. tt);
-    reported = both_still _ (if_map h0.disk (λ disk b events are. inl (early f.part (BeginsEarly words disk) f.written b events are)) (begins f.part f.begins));
+    reported = both_still _ (if_map h0.disk (λ disk b events are. inl (early f.part (BeginsEarly asking disk) f.written b events are)) (begins f.part f.begins));
     turns = no_turns answers.SinkFault (λ e. cc) refl;
     left_open = no_left;
     out_keeps = keeps_failed bytes o0 o1 f;
   }
 
-  still_out : (part : List ℕ) → o1 ≡ with_written part o0 → IfSome h0.disk (λ disk. BeginsSome words disk h0.faults h1.faults part) → Promised answers.OutOfMemory
+  still_out : (part : List ℕ) → o1 ≡ with_written part o0 → IfSome h0.disk (λ disk. BeginsSome asking disk h0.faults h1.faults part) → Promised answers.OutOfMemory
   still_out part same begins = record {
     happened = both_still _ (if_all h0.disk (λ disk. inl still));
     counts = faults_of part o0 o1 same;
@@ -158,14 +165,14 @@ module _ (made : Made) (words : List Word) (h0 h1 : Outside) (o0 o1 : Output) (i
     starts_none = tt;
     whole = tt;
     patterns = if_all h0.disk (λ disk. tt);
-    reported = both_still _ (if_map h0.disk (λ disk b events are. inl (early part (BeginsSome words disk h0.faults h1.faults) (text_of part o0 o1 same) b events are)) begins);
+    reported = both_still _ (if_map h0.disk (λ disk b events are. inl (early part (BeginsSome asking disk h0.faults h1.faults) (text_of part o0 o1 same) b events are)) begins);
     turns = no_turns answers.OutOfMemory (λ e. cc) refl;
     left_open = no_left;
     out_keeps = keeps_written part o0 o1 same;
   }
 
   pub still_memory : (bytes : List ℕ) → StopsIn bytes o0 o1
-      → ((part : List ℕ) → IsFrontOf part bytes → IfSome h0.disk (λ disk. BeginsSome words disk h0.faults h1.faults part)) → Promised answers.OutOfMemory
+      → ((part : List ℕ) → IsFrontOf part bytes → IfSome h0.disk (λ disk. BeginsSome asking disk h0.faults h1.faults part)) → Promised answers.OutOfMemory
   still_memory bytes s begins = still_out s.part s.same (begins s.part s.begins)
 
   -- nothing was written, for lack of memory
@@ -174,7 +181,7 @@ module _ (made : Made) (words : List Word) (h0 h1 : Outside) (o0 o1 : Output) (i
 
   -- ---- the usage line
 
-  pub still_usage : (result : Answer) → build_command words ≡ None → h1.faults ≡ h0.faults → Says answers.Usage usage_line o0 o1 result → Promised result
+  pub still_usage : (result : Answer) → asking.command ≡ None → h1.faults ≡ h0.faults → Says answers.Usage usage_line o0 o1 result → Promised result
   still_usage result none same (said is p) = subst Promised (sym is) (record {
     happened = both_still _ (if_all h0.disk (λ disk. (still, none)));
     counts = record { host = same; sink = faults_of usage_line o0 o1 p };
@@ -197,71 +204,85 @@ module _ (made : Made) (words : List Word) (h0 h1 : Outside) (o0 o1 : Output) (i
 
   -- ---- a refusal
 
-  refused_by : (why : PlanRefusal) (echoes : List Word) (disk : Disk) → HasNoPlan words disk echoes (fault_of why) → RefusedBy made words h0 h1 disk disk (fault_of why)
-  refused_by (refusals.Load fault) echoes disk c = (still, (echoes, c))
-  refused_by (refusals.Request fault) echoes disk c = (still, (echoes, c))
-  refused_by (refusals.Generation fault) echoes disk c = (still, (echoes, c))
+  refused_by : (fault : Fault) → IsEarly fault → (echoes : List Word) (disk : Disk) → HasNoPlanFor asking disk echoes fault → RefusedFor made asking h0 h1 disk disk fault
+  refused_by (faults.Load fault) e echoes disk c = (still, (echoes, c))
+  refused_by (faults.Request fault) e echoes disk c = (still, (echoes, c))
+  refused_by (faults.Gen fault) e echoes disk c = (still, (echoes, c))
+  refused_by (faults.Jam fault) e echoes disk c = (still, (echoes, c))
+  refused_by (faults.StepCycle list) e echoes disk c = absurd e
+  refused_by (faults.TooBig path size) e echoes disk c = absurd e
 
-  told_by : (why : PlanRefusal) (disk : Disk) (events : List ChildEvent) → WroteEarly (moment h0 o0) (moment h1 o1) events (IsRefusalReport words disk (fault_of why))
-      → RefusalTold made words (moment h0 o0) (moment h1 o1) disk disk events (fault_of why)
-  told_by (refusals.Load fault) disk events w = w
-  told_by (refusals.Request fault) disk events w = w
-  told_by (refusals.Generation fault) disk events w = w
+  told_by : (fault : Fault) → IsEarly fault → (disk : Disk) (events : List ChildEvent) → WroteEarly (moment h0 o0) (moment h1 o1) events (IsRefusalReport asking disk fault)
+      → RefusalTold made asking (moment h0 o0) (moment h1 o1) disk disk events fault
+  told_by (faults.Load fault) e disk events w = w
+  told_by (faults.Request fault) e disk events w = w
+  told_by (faults.Gen fault) e disk events w = w
+  told_by (faults.Jam fault) e disk events w = w
+  told_by (faults.StepCycle list) e disk events w = absurd e
+  told_by (faults.TooBig path size) e disk events w = absurd e
 
-  starts_by : (why : PlanRefusal) → RefusedStill (fault_of why) h0 h1
-  starts_by (refusals.Load fault) = still
-  starts_by (refusals.Request fault) = still
-  starts_by (refusals.Generation fault) = still
+  starts_by : (fault : Fault) → IsEarly fault → RefusedStill fault h0 h1
+  starts_by (faults.Load fault) e = still
+  starts_by (faults.Request fault) e = still
+  starts_by (faults.Gen fault) e = still
+  starts_by (faults.Jam fault) e = still
+  starts_by (faults.StepCycle list) e = absurd e
+  starts_by (faults.TooBig path size) e = absurd e
 
-  patterns_by : (why : PlanRefusal) (disk : Disk) → ((plan : HasPlan words disk) → IsPatternRefused disk plan.command.words (answers.Refused (fault_of why)))
-      → OnlyPatternRefused words disk (fault_of why)
-  patterns_by (refusals.Load fault) disk f = f
-  patterns_by (refusals.Request fault) disk f = f
-  patterns_by (refusals.Generation fault) disk f = f
+  patterns_by : (fault : Fault) (disk : Disk) → OnlyPattern asking disk fault → OnlyPatternRefused asking disk fault
+  patterns_by (faults.Load fault) disk f = f
+  patterns_by (faults.Request fault) disk f = f
+  patterns_by (faults.Gen fault) disk f = f
+  patterns_by (faults.Jam fault) disk f = f
+  patterns_by (faults.StepCycle list) disk f = tt
+  patterns_by (faults.TooBig path size) disk f = tt
 
-  turns_by : (why : PlanRefusal) → TurnsTold words h0 h1 (answers.Refused (fault_of why))
-  turns_by (refusals.Load fault) = no_turns (answers.Refused (fault_of (refusals.Load fault))) (λ e. cc) refl
-  turns_by (refusals.Request fault) = no_turns (answers.Refused (fault_of (refusals.Request fault))) (λ e. cc) refl
-  turns_by (refusals.Generation fault) = no_turns (answers.Refused (fault_of (refusals.Generation fault))) (λ e. cc) refl
+  turns_by : (fault : Fault) → IsEarly fault → TurnsFor asking.command h0 h1 (answers.Refused fault)
+  turns_by (faults.Load fault) e = no_turns (answers.Refused (faults.Load fault)) (λ e. cc) refl
+  turns_by (faults.Request fault) e = no_turns (answers.Refused (faults.Request fault)) (λ e. cc) refl
+  turns_by (faults.Gen fault) e = no_turns (answers.Refused (faults.Gen fault)) (λ e. cc) refl
+  turns_by (faults.Jam fault) e = no_turns (answers.Refused (faults.Jam fault)) (λ e. cc) refl
+  turns_by (faults.StepCycle list) e = absurd e
+  turns_by (faults.TooBig path size) e = absurd e
 
-  report_of : (why : PlanRefusal) (echoes : List Word) (disk : Disk) → HasNoPlan words disk echoes (fault_of why) → IsRefusalReport words disk (fault_of why) (refusal_report echoes [] (fault_of why))
-  report_of why echoes disk c = record { echoes = echoes; cause = c; is = refl }
+  report_of : (fault : Fault) (echoes : List Word) (disk : Disk) → HasNoPlanFor asking disk echoes fault → IsRefusalReport asking disk fault (refusal_report echoes [] fault)
+  report_of fault echoes disk c = record { echoes = echoes; cause = c; is = refl }
 
-  pub still_refused : (why : PlanRefusal) (echoes : List Word) (result : Answer) → IsWhole (fault_of why) → (build_command words ≡ None → ⊥) → h1.faults ≡ h0.faults
-      → IfSome h0.disk (λ disk. HasNoPlan words disk echoes (fault_of why))
-      → IfSome h0.disk (λ disk. (plan : HasPlan words disk) → IsPatternRefused disk plan.command.words (answers.Refused (fault_of why)))
-      → Says (answers.Refused (fault_of why)) (refusal_report echoes [] (fault_of why)) o0 o1 result → Promised result
-  still_refused why echoes result input some same cause no_plan (said is p) = let text = refusal_report echoes [] (fault_of why) in subst Promised (sym is) (record {
-    happened = both_still _ (if_map h0.disk (refused_by why echoes) cause);
+  pub still_refused : (fault : Fault) → IsEarly fault → (echoes : List Word) (result : Answer) → IsWholeFor fault asking.source → (asking.command ≡ None → ⊥) → h1.faults ≡ h0.faults
+      → IfSome h0.disk (λ disk. HasNoPlanFor asking disk echoes fault)
+      → IfSome h0.disk (λ disk. (plan : HasPlanFor asking disk) → IsPatternRefusedIn asking.source disk plan.command.words (answers.Refused fault))
+      → Says (answers.Refused fault) (refusal_report echoes [] fault) o0 o1 result → Promised result
+  still_refused fault is_early echoes result input some same cause no_plan (said is p) = let text = refusal_report echoes [] fault in subst Promised (sym is) (record {
+    happened = both_still _ (if_map h0.disk (refused_by fault is_early echoes) cause);
     counts = record { host = same; sink = faults_of text o0 o1 p };
     usage = λ none. absurd (some none);
     alone = alone;
     no_usage = λ e. absurd cc;
     usage_told = λ e. absurd cc;
-    starts_none = starts_by why;
+    starts_none = starts_by fault is_early;
     whole = input;
-    patterns = if_map h0.disk (patterns_by why) no_plan;
-    reported = both_still _ (if_map h0.disk (λ disk c events are. told_by why disk events (early text (IsRefusalReport words disk (fault_of why)) (text_of text o0 o1 p) (report_of why echoes disk c) events are)) cause);
-    turns = turns_by why;
+    patterns = if_map h0.disk (patterns_by fault) no_plan;
+    reported = both_still _ (if_map h0.disk (λ disk c events are. told_by fault is_early disk events (early text (IsRefusalReport asking disk fault) (text_of text o0 o1 p) (report_of fault echoes disk c) events are)) cause);
+    turns = turns_by fault is_early;
     left_open = no_left;
     out_keeps = keeps_written text o0 o1 p;
   })
-  still_refused why echoes result input some same cause no_plan (failed is f) =
-      let text = refusal_report echoes [] (fault_of why) in
+  still_refused fault is_early echoes result input some same cause no_plan (failed is f) =
+      let text = refusal_report echoes [] fault in
       subst Promised (sym is) (still_sink text f same
-      (λ part front. if_map h0.disk (λ disk c. (text, refusal (fault_of why) (report_of why echoes disk c), front)) cause))
-  still_refused why echoes result input some same cause no_plan (stopped is s) =
-      let text = refusal_report echoes [] (fault_of why) in
+      (λ part front. if_map h0.disk (λ disk c. (text, refusal fault (report_of fault echoes disk c), front)) cause))
+  still_refused fault is_early echoes result input some same cause no_plan (stopped is s) =
+      let text = refusal_report echoes [] fault in
       subst Promised (sym is) (still_memory text s
-      (λ part front. if_map h0.disk (λ disk c. reporting (text, refusal (fault_of why) (report_of why echoes disk c), front)) cause))
+      (λ part front. if_map h0.disk (λ disk c. reporting (text, refusal fault (report_of fault echoes disk c), front)) cause))
 
   -- ---- a fault of the host
 
-  module _ (command : BuildCommand) (asked : build_command words ≡ Some command) (echoes : List Word) (begins : IfSome h0.disk (λ disk. BeginLoad disk command.words echoes)) (rose : Rose h0.faults h1.faults) where
-    fault_at : (disk : Disk) → BeginLoad disk command.words echoes → IsFaultReport words disk (fault_report echoes)
+  module _ (command : BuildCommand) (asked : asking.command ≡ Some command) (echoes : List Word) (begins : IfSome h0.disk (λ disk. BeginsLoad asking.source disk command.words echoes)) (rose : Rose h0.faults h1.faults) where
+    fault_at : (disk : Disk) → BeginsLoad asking.source disk command.words echoes → IsFaultReport asking disk (fault_report echoes)
     fault_at disk b = record { command = command; asked = asked; echoes = echoes; begins = b; is = refl }
 
-    still_host : (bytes : List ℕ) → o1.written ≡ option_map (λ so_far. so_far ++ bytes) o0.written → IfSome h0.disk (λ disk. TellsFault words disk o0 o1 bytes) → HostFailedBeforeReport (moment h0 o0) (moment h1 o1) → OutKeeps o0 o1 → Promised answers.HostFault
+    still_host : (bytes : List ℕ) → o1.written ≡ option_map (λ so_far. so_far ++ bytes) o0.written → IfSome h0.disk (λ disk. TellsFault asking disk o0 o1 bytes) → HostFailedBeforeReport (moment h0 o0) (moment h1 o1) → OutKeeps o0 o1 → Promised answers.HostFault
     still_host bytes text ended first keeps = record {
       happened = both_still _ (if_all h0.disk (λ disk. inl still));
       counts = first;
@@ -272,7 +293,7 @@ module _ (made : Made) (words : List Word) (h0 h1 : Outside) (o0 o1 : Output) (i
       starts_none = tt;
       whole = tt;
       patterns = if_all h0.disk (λ disk. tt);
-      reported = both_still _ (if_map h0.disk (λ disk told events are. inl (early bytes (TellsFault words disk o0 o1) text told events are)) ended);
+      reported = both_still _ (if_map h0.disk (λ disk told events are. inl (early bytes (TellsFault asking disk o0 o1) text told events are)) ended);
       turns = no_turns answers.HostFault (λ e. cc) refl;
       left_open = no_left;
       out_keeps = keeps;

@@ -1,5 +1,5 @@
 -- Whatever the update of a plan ended with, its events, lines and faults are those that the call promises.
-use Rattle.std.proofs.Common.{◌≡◌, ◌⊎◌, ℕ, List, [], ◌∷◌, ◌++◌, Option, Some, None, IfSome, Ok, inl, inr, refl, sym, ap, ◌∙◌, subst, append_assoc, append-nil}
+use Rattle.std.proofs.Common.{◌≡◌, ◌⊎◌, ℕ, List, [], ◌∷◌, ◌++◌, Option, Some, None, IfSome, inl, inr, refl, sym, ap, ◌∙◌, subst, append_assoc, append-nil}
 use Rattle.std.specs.List.{Contains}
 use Rattle.std.specs.Option.{option_map}
 use Rattle.b2_top.proofs.FaultsCountFromEarlier.{sink_failed_from, wait_failed_from}
@@ -13,10 +13,8 @@ use Rattle.b2_top.specs.declared.answer.Answer.{Answer}
 use Rattle.b2_top.specs.declared.answer.Answer.TheVariants as answers
 use Rattle.b2_top.specs.declared.build_command.BuildCommand.{BuildCommand}
 use Rattle.b2_top.specs.BetweenMoments.{CountsStay, HostFailedBeforeReport}
-use Rattle.b2_prepare.specs.Meaning.{AsksTests}
-use Rattle.b2_prepare.specs.Preparing.{IsPrepared}
-use Rattle.b2_request_plan.specs.Plans.{seen}
-use Rattle.b2_request_plan.specs.declared.planned.Planned.{Planned}
+use Rattle.b2_generate.specs.Answers.{Row}
+use Rattle.b2_generate.specs.Planning.{Planned, Line}
 use Rattle.b2_host.specs.ChildProcesses.{Family, BothTold}
 use Rattle.b2_host.specs.Disks.{Folder, Disk}
 use Rattle.b2_base.specs.Counts.{Rose}
@@ -27,10 +25,11 @@ use Rattle.b2_host.specs.OutputLaws.{OutKeeps, out_keeps_then}
 use Rattle.b2_host.specs.Output.{Output, with_written}
 use Rattle.b2_host.specs.declared.children.ChildEvent.{ChildEvent}
 use Rattle.b2_plan.specs.Plans.{Apart}
+use Rattle.b2_plan.specs.declared.plan.Plan.{Plan}
 use Rattle.b2_plan.specs.declared.step.Step.{Step}
 use Rattle.b2_log.specs.declared.line.LogLine.{LogLine}
 use Rattle.b2_refusals.specs.Lines.{refusal_line as own_line}
-use Rattle.b2_refusals.specs.Wholes.{IsWhole}
+use Rattle.b2_top.specs.Askings.{IsWholeFor}
 use Rattle.b2_refusals.specs.declared.fault.Fault.TheVariants as faults
 use Rattle.b2_runs.specs.Moments.{Moment}
 use Rattle.b2_runs.specs.Reports.{too_big_line, host_fault_line}
@@ -48,14 +47,14 @@ use Rattle.b2_update.specs.Updates.{update_of, UpdateTold, IsDone}
 use Rattle.b2_update.specs.declared.update_answer.UpdateAnswer.{UpdateAnswer}
 use Rattle.b2_update.specs.declared.update_answer.UpdateAnswer.TheVariants as ends
 use Rattle.b2_command_line.specs.Words.{Word}
-use Rattle.b2_top.specs.Commands.{build_command}
-use Rattle.b2_top.specs.Plans.{HasPlan, options_of, update_for}
-use Rattle.b2_top.specs.Builds.{HasBuilt, LacksSome, MayAnswer, HappenedBy, run_answer}
+use Rattle.b2_top.specs.Askings.{Source, Asking, ComesTo, AsksTestsOf}
+use Rattle.b2_top.specs.Plans.{HasPlanFor, options_of, update_for}
+use Rattle.b2_top.specs.Builds.{HasBuiltFor, LacksSome, MayAnswer, HappenedFor, run_answer}
 use Rattle.b2_top.specs.Reported.{WroteUpdate, IsAllOf, IsToldOrCut, ReportedBy}
-use Rattle.b2_top.specs.Answered.{StaysOrWaits, CountsTold, StartsNone, ReportTold}
+use Rattle.b2_top.specs.Answered.{StaysOrWaits, CountsTold, StartsNone, ReportFor}
 use Rattle.b2_top.specs.Endings.{IfRefused}
 use Rattle.b2_top.specs.LastLines.{AreVerdictLines, AreLast, IsUnwritten}
-use Rattle.b2_top.specs.Running.{TellsVerdicts, EndsUpdate, OnlyPatternRefused, Calls}
+use Rattle.b2_top.specs.Running.{TellsVerdicts, EndsUpdate, OnlyPatternRefused, CallsFor}
 use Rattle.b2_top.proofs.StillCallsAnswerAsPromised.{not_in}
 
 -- ---- visible files
@@ -158,39 +157,45 @@ quiet_from h0 h1 h2 same keeps (inr wait) = inr (wait_failed_from h0 h1 h2 keeps
 
 -- ---- a call
 
--- What the files and the words come to: this plan, which asks for these tests.
-pub record IsToldPlan (disk : Disk) (words echoes : List Word) (planned : Planned) (tests : List (List ℕ × ℕ)) : Type 0 where
-  pub prepared : IsPrepared disk words echoes (Ok planned)
-  pub asks : AsksTests disk words (seen planned) tests
+-- a plan, with these rows and this table of main targets
+abbrev pub viewed : Plan → List Row → List Line → Planned
+viewed plan rows table = record { steps = plan.steps; wanted = plan.wanted; roots = plan.roots; rows = rows; table = table }
 
-pub told_plan : (d : Option Disk) (words echoes : List Word) (planned : Planned) (tests : List (List ℕ × ℕ)) → IfSome d (λ disk. IsPrepared disk words echoes (Ok planned))
-    → IfSome d (λ disk. AsksTests disk words (seen planned) tests) → IfSome d (λ disk. IsToldPlan disk words echoes planned tests)
-told_plan None words echoes planned tests told asks = tt
-told_plan (Some disk) words echoes planned tests told asks = record { prepared = told; asks = asks }
+-- What the files and the words come to: this plan, which asks for these tests.
+pub record IsToldPlan (source : Source) (disk : Disk) (words echoes : List Word) (planned : Planned) (tests : List (List ℕ × ℕ)) : Type 0 where
+  pub means : ComesTo source disk words echoes planned
+  pub asks : AsksTestsOf source disk words planned tests
+
+pub told_plan : (source : Source) (d : Option Disk) (words echoes : List Word) (planned : Planned) (tests : List (List ℕ × ℕ)) → IfSome d (λ disk. ComesTo source disk words echoes planned)
+    → IfSome d (λ disk. AsksTestsOf source disk words planned tests) → IfSome d (λ disk. IsToldPlan source disk words echoes planned tests)
+told_plan source None words echoes planned tests told asks = tt
+told_plan source (Some disk) words echoes planned tests told asks = record { means = told; asks = asks }
 
 -- What holds where a plan was updated with this answer, and the end is to be told. `m` is the sink then.
-pub record IsUpdated (made : Made) (words : List Word) (before after : Moment) (m : Output) (end : UpdateAnswer) : Type 0 where
+pub record IsUpdated (made : Made) (asking : Asking) (before after : Moment) (m : Output) (end : UpdateAnswer) : Type 0 where
   pub command : BuildCommand
-  pub asked : build_command words ≡ Some command
+  pub asked : asking.command ≡ Some command
   pub loaded : Outside
   pub sink : Output
   pub echoes : List Word
-  pub planned : Planned
+  pub plan : Plan
+  pub rows : List Row
+  pub table : List Line
   pub tests : List (List ℕ × ℕ)
   pub disk_same : loaded.disk ≡ before.host.disk
   pub children_same : loaded.children ≡ before.host.children
   pub same : loaded.faults ≡ before.host.faults
   pub keeps : Keeps before.host loaded
-  pub apart : Apart planned.plan.steps planned.plan.roots
-  pub prepared : IfSome before.host.disk (λ disk. IsToldPlan disk command.words echoes planned tests)
+  pub apart : Apart plan.steps plan.roots
+  pub prepared : IfSome before.host.disk (λ disk. IsToldPlan asking.source disk command.words echoes (viewed plan rows table) tests)
   pub echoed : sink ≡ with_written (echo_lines echoes) before.out
   pub out_keeps : OutKeeps sink m
   pub caused : CausedBy (moment loaded sink) (moment after.host m) (answer_of end)
-  pub told : UpdateTold planned.plan (options_of command.options) made (moment loaded sink) (moment after.host m) end
-  pub turns : HasHappened planned.plan.steps command.options.jobs loaded.disk loaded.children.events after.host.children.events (answer_of end)
-  pub left : LeavesOpen planned.plan.steps loaded.children after.host.children
+  pub told : UpdateTold plan (options_of command.options) made (moment loaded sink) (moment after.host m) end
+  pub turns : HasHappened plan.steps command.options.jobs loaded.disk loaded.children.events after.host.children.events (answer_of end)
+  pub left : LeavesOpen plan.steps loaded.children after.host.children
 
-module _ (made : Made) (words : List Word) (before after : Moment) (m : Output) (end : UpdateAnswer) (s : IsUpdated made words before after m end) where
+module _ (made : Made) (asking : Asking) (before after : Moment) (m : Output) (end : UpdateAnswer) (s : IsUpdated made asking before after m end) where
   abbrev h0 : Outside
   h0 = before.host
 
@@ -213,22 +218,22 @@ module _ (made : Made) (words : List Word) (before after : Moment) (m : Output) 
   jobs = s.command.options.jobs
 
   abbrev steps : List Step
-  steps = s.planned.plan.steps
+  steps = s.plan.steps
 
   abbrev Promised : Answer → Type 0
-  Promised = Calls made words before after
+  Promised = CallsFor made asking before after
 
   abbrev AtBoth : (Disk → Disk → Type 0) → Type 0
   AtBoth P = BothTold P h0.disk h2.disk
 
   abbrev IsTold : Disk → Type 0
-  IsTold disk = IsToldPlan disk s.command.words s.echoes s.planned s.tests
+  IsTold disk = IsToldPlan asking.source disk s.command.words s.echoes (viewed s.plan s.rows s.table) s.tests
 
-  not_none : {X : Type 0} → build_command words ≡ None → X
+  not_none : {X : Type 0} → asking.command ≡ None → X
   not_none none = let e : None ≡ Some s.command = sym none ∙ s.asked in absurd cc
 
-  abbrev plan_at : (disk : Disk) → IsTold disk → HasPlan words disk
-  plan_at disk h = record { command = s.command; echoes = s.echoes; planned = seen s.planned; asked = s.asked; means = h.prepared.1 }
+  abbrev plan_at : (disk : Disk) → IsTold disk → HasPlanFor asking disk
+  plan_at disk h = record { command = s.command; echoes = s.echoes; planned = viewed s.plan s.rows s.table; asked = s.asked; means = h.means }
 
   -- what is told of the log at entry
   abbrev Done : (disk later : Disk) → IsTold disk → List LogLine → Type 0
@@ -237,9 +242,9 @@ module _ (made : Made) (words : List Word) (before after : Moment) (m : Output) 
 
   abbrev ToldHere : Disk → Disk → Type 0
   ToldHere disk later = WithLog disk.now
-      (λ log. UsesTrueLines (update_of s.planned.plan (options_of s.command.options) made disk.now log) disk
-      → Distinguishes (update_of s.planned.plan (options_of s.command.options) made disk.now log) later.past
-      → IsDone (update_of s.planned.plan (options_of s.command.options) made disk.now log) (answer_of end) (moment h1 o1) (moment h2 m) disk later) (answer_of end)
+      (λ log. UsesTrueLines (update_of s.plan (options_of s.command.options) made disk.now log) disk
+      → Distinguishes (update_of s.plan (options_of s.command.options) made disk.now log) later.past
+      → IsDone (update_of s.plan (options_of s.command.options) made disk.now log) (answer_of end) (moment h1 o1) (moment h2 m) disk later) (answer_of end)
 
   of_each : {Q : Disk → Disk → Type 0} → ((disk later : Disk) (h : IsTold disk) → WithLog disk.now (Done disk later h) (answer_of end) → Q disk later) → AtBoth Q
   of_each {Q} f = both_with {P = ToldHere} {Q = Q} IsTold h0.disk h2.disk s.prepared (λ disk later h w. f disk later h w) (subst (λ d. BothTold ToldHere d h2.disk) s.disk_same s.told)
@@ -254,7 +259,7 @@ module _ (made : Made) (words : List Word) (before after : Moment) (m : Output) 
   turns_now = subst (λ d. HasHappened steps jobs d h0.children.events h2.children.events (answer_of end)) s.disk_same
       (subst (λ (f : Family). HasHappened steps jobs h1.disk f.events h2.children.events (answer_of end)) s.children_same s.turns)
 
-  abbrev built_at : (disk later : Disk) (h : IsTold disk) → WithLog disk.now (Done disk later h) (answer_of end) → HasBuilt made words h0 h2 disk later (answer_of end)
+  abbrev built_at : (disk later : Disk) (h : IsTold disk) → WithLog disk.now (Done disk later h) (answer_of end) → HasBuiltFor made asking h0 h2 disk later (answer_of end)
   built_at disk later h w = record {
     plan = plan_at disk h;
     apart = s.apart;
@@ -265,7 +270,7 @@ module _ (made : Made) (words : List Word) (before after : Moment) (m : Output) 
     left_open = left_now;
   }
 
-  built : AtBoth (λ disk later. HasBuilt made words h0 h2 disk later (answer_of end))
+  built : AtBoth (λ disk later. HasBuiltFor made asking h0 h2 disk later (answer_of end))
   built = of_each (λ disk later h w. built_at disk later h w)
 
   -- ---- the last lines
@@ -278,7 +283,7 @@ module _ (made : Made) (words : List Word) (before after : Moment) (m : Output) 
   Follows piece = o2.written ≡ option_map (λ so_far. so_far ++ piece) m.written
 
   abbrev Wrote : (List ℕ → List ℕ → Type 0) → Disk → Disk → List ChildEvent → Type 0
-  Wrote IsSo disk later events = WroteUpdate made words before after disk later events (answer_of end) IsSo
+  Wrote IsSo disk later events = WroteUpdate made asking before after disk later events (answer_of end) IsSo
 
   abbrev Writes : (List ℕ → List ℕ → Type 0) → Disk → Disk → Type 0
   Writes IsSo disk later = (events : List ChildEvent) → h2.children.events ≡ h0.children.events ++ events → Wrote IsSo disk later events
@@ -328,9 +333,9 @@ module _ (made : Made) (words : List Word) (before after : Moment) (m : Output) 
   failed_after write = sink_failed_from o0 m o2 kept_until.faults kept_until.may_fail write
 
   -- a call with this update ends so
-  ends_so : (result : Answer) → AtBoth (λ disk later. HappenedBy made words h0 h2 disk later result) → CountsTold before after result → (result ≡ answers.Usage → ⊥)
-      → StartsNone result h0 h2 → IfRefused IsWhole result → ((disk : Disk) → IfRefused (OnlyPatternRefused words disk) result)
-      → ReportTold made words before after result → Turns (run_answer result) → OutKeeps o0 o2 → Promised result
+  ends_so : (result : Answer) → AtBoth (λ disk later. HappenedFor made asking h0 h2 disk later result) → CountsTold before after result → (result ≡ answers.Usage → ⊥)
+      → StartsNone result h0 h2 → IfRefused (λ fault. IsWholeFor fault asking.source) result → ((disk : Disk) → IfRefused (OnlyPatternRefused asking disk) result)
+      → ReportFor made asking before after result → Turns (run_answer result) → OutKeeps o0 o2 → Promised result
   ends_so result happened counts not_usage starts whole patterns reported now kept_out = record {
     happened = happened;
     counts = counts;
@@ -365,10 +370,10 @@ module _ (made : Made) (words : List Word) (before after : Moment) (m : Output) 
 
   -- The update has an answer of its own, which comes where its last lines are written.
   module _ (own : Answer) (last : List ℕ) (are : IsLast last) (counts : runs.CountsStay (moment h1 o1) (moment h2 m))
-      (happened : (disk later : Disk) → HasBuilt made words h0 h2 disk later (answer_of end) → HappenedBy made words h0 h2 disk later own)
-      (told_so : (disk later : Disk) (events : List ChildEvent) → Wrote IsAllOf disk later events → ReportedBy made words before after disk later events own)
+      (happened : (disk later : Disk) → HasBuiltFor made asking h0 h2 disk later (answer_of end) → HappenedFor made asking h0 h2 disk later own)
+      (told_so : (disk later : Disk) (events : List ChildEvent) → Wrote IsAllOf disk later events → ReportedBy made asking before after disk later events own)
       (counted : CountsStay before after → CountsTold before after own) (not_usage : own ≡ answers.Usage → ⊥)
-      (starts : StartsNone own h0 h2) (whole : IfRefused IsWhole own) (patterns : (disk : Disk) → IfRefused (OnlyPatternRefused words disk) own)
+      (starts : StartsNone own h0 h2) (whole : IfRefused (λ fault. IsWholeFor fault asking.source) own) (patterns : (disk : Disk) → IfRefused (OnlyPatternRefused asking disk) own)
       (named : answer_of end ≡ run_answer own) where
     pub said_own : (result : Answer) → result ≡ own → o2 ≡ with_written last m → Promised result
     said_own result is p = subst Promised (sym is) (ends_so own (both_follow h0.disk h2.disk happened built)
@@ -394,8 +399,8 @@ module _ (made : Made) (words : List Word) (before after : Moment) (m : Output) 
 
     fault_ends : (piece : List ℕ) → Follows piece → IsToldOrCut o0 o2 piece host_fault_line → HostFailedBeforeReport before after → OutKeeps o0 o2 → Promised answers.HostFault
     fault_ends piece e so first kept_out =
-        ends_so answers.HostFault (both_follow h0.disk h2.disk (λ disk later b. inr (subst (λ a. HasBuilt made words h0 h2 disk later a) is_fault b)) built) first (λ u. cc) tt tt (λ disk. tt)
-        (both_follow h0.disk h2.disk (λ disk later w events are. inr (subst (λ a. WroteUpdate made words before after disk later events a (IsToldOrCut o0 o2)) is_fault (w events are)))
+        ends_so answers.HostFault (both_follow h0.disk h2.disk (λ disk later b. inr (subst (λ a. HasBuiltFor made asking h0 h2 disk later a) is_fault b)) built) first (λ u. cc) tt tt (λ disk. tt)
+        (both_follow h0.disk h2.disk (λ disk later w events are. inr (subst (λ a. WroteUpdate made asking before after disk later events a (IsToldOrCut o0 o2)) is_fault (w events are)))
         (wrote (IsToldOrCut o0 o2) host_fault_line piece line_is e so))
         (cut_now host_fault (λ u. cc) refl) kept_out
 
@@ -421,53 +426,53 @@ none_told : (steps : List Step) (ended : RunAnswer) → AreVerdictLines steps en
 none_told _ ended = record { verdicts = []; passed = tt; lines_are = refl }
 
 -- whatever the update ended with
-module _ (made : Made) (words : List Word) (before after : Moment) (m : Output) where
+module _ (made : Made) (asking : Asking) (before after : Moment) (m : Output) where
   same_faults : after.out ≡ m → after.out.faults ≡ m.faults
   same_faults e = ap (λ (o : Output). o.faults) e
 
   -- the write failed in the update
-  sink_now : (s : IsUpdated made words before after m ends.SinkFault) → after.out ≡ m → SinkFailed before.out after.out
+  sink_now : (s : IsUpdated made asking before after m ends.SinkFault) → after.out ≡ m → SinkFailed before.out after.out
   sink_now s e =
       let k = keeps_written (echo_lines s.echoes) before.out s.sink s.echoed in
       subst (SinkFailed before.out) (sym e) (sink_failed_from before.out s.sink m k.faults k.may_fail s.caused.0)
 
   -- it came to its end
-  ended_done : (s : IsUpdated made words before after m ends.Done) (result : Answer) (tests : List (List ℕ × ℕ)) → s.tests ≡ tests
-      → TellsVerdicts s.planned.plan.steps tests ends.Done m after.out result → Calls made words before after result
-  ended_done s result [] is e = said_own made words before after m ends.Done s answers.Ok []
-      (subst (λ (ts : List (List ℕ × ℕ)). AreVerdictLines s.planned.plan.steps all_went ts []) (sym is) (none_told s.planned.plan.steps all_went)) s.caused
+  ended_done : (s : IsUpdated made asking before after m ends.Done) (result : Answer) (tests : List (List ℕ × ℕ)) → s.tests ≡ tests
+      → TellsVerdicts s.plan.steps tests ends.Done m after.out result → CallsFor made asking before after result
+  ended_done s result [] is e = said_own made asking before after m ends.Done s answers.Ok []
+      (subst (λ (ts : List (List ℕ × ℕ)). AreVerdictLines s.plan.steps all_went ts []) (sym is) (none_told s.plan.steps all_went)) s.caused
       (λ disk later b. b) (λ disk later events w. w) (λ c. c) (λ u. cc) tt tt (λ disk. tt) refl result e.0 (e.1 ∙ written_none m)
-  ended_done s result (test ∷ more) is (lines, are, says) = ended_own made words before after m ends.Done s answers.Ok lines
-      (subst (λ (ts : List (List ℕ × ℕ)). AreVerdictLines s.planned.plan.steps all_went ts lines) (sym is) are) s.caused
+  ended_done s result (test ∷ more) is (lines, are, says) = ended_own made asking before after m ends.Done s answers.Ok lines
+      (subst (λ (ts : List (List ℕ × ℕ)). AreVerdictLines s.plan.steps all_went ts lines) (sym is) are) s.caused
       (λ disk later b. b) (λ disk later events w. w) (λ c. c) (λ u. cc) tt tt (λ disk. tt) refl
-      (λ disk h. inr (lacks made words before after m ends.Done s test more is answers.SinkFault (inl refl) disk h))
-      (λ disk h. inr (lacks made words before after m ends.Done s test more is answers.OutOfMemory (inr refl) disk h)) result says
+      (λ disk h. inr (lacks made asking before after m ends.Done s test more is answers.SinkFault (inl refl) disk h))
+      (λ disk h. inr (lacks made asking before after m ends.Done s test more is answers.OutOfMemory (inr refl) disk h)) result says
 
-  ended_failed : (lists : FailedLists) (s : IsUpdated made words before after m (ends.Failed lists)) (result : Answer) (tests : List (List ℕ × ℕ)) → s.tests ≡ tests
-      → TellsVerdicts s.planned.plan.steps tests (ends.Failed lists) m after.out result → Calls made words before after result
-  ended_failed lists s result [] is e = said_own made words before after m (ends.Failed lists) s (answers.Failed lists) []
-      (subst (λ (ts : List (List ℕ × ℕ)). AreVerdictLines s.planned.plan.steps (some_failed (lists_of lists)) ts []) (sym is) (none_told s.planned.plan.steps (some_failed (lists_of lists)))) s.caused
+  ended_failed : (lists : FailedLists) (s : IsUpdated made asking before after m (ends.Failed lists)) (result : Answer) (tests : List (List ℕ × ℕ)) → s.tests ≡ tests
+      → TellsVerdicts s.plan.steps tests (ends.Failed lists) m after.out result → CallsFor made asking before after result
+  ended_failed lists s result [] is e = said_own made asking before after m (ends.Failed lists) s (answers.Failed lists) []
+      (subst (λ (ts : List (List ℕ × ℕ)). AreVerdictLines s.plan.steps (some_failed (lists_of lists)) ts []) (sym is) (none_told s.plan.steps (some_failed (lists_of lists)))) s.caused
       (λ disk later b. b) (λ disk later events w. w) (λ c. c) (λ u. cc) tt tt (λ disk. tt) refl result e.0 (e.1 ∙ written_none m)
-  ended_failed lists s result (test ∷ more) is (lines, are, says) = ended_own made words before after m (ends.Failed lists) s (answers.Failed lists) lines
-      (subst (λ (ts : List (List ℕ × ℕ)). AreVerdictLines s.planned.plan.steps (some_failed (lists_of lists)) ts lines) (sym is) are) s.caused
+  ended_failed lists s result (test ∷ more) is (lines, are, says) = ended_own made asking before after m (ends.Failed lists) s (answers.Failed lists) lines
+      (subst (λ (ts : List (List ℕ × ℕ)). AreVerdictLines s.plan.steps (some_failed (lists_of lists)) ts lines) (sym is) are) s.caused
       (λ disk later b. b) (λ disk later events w. w) (λ c. c) (λ u. cc) tt tt (λ disk. tt) refl
-      (λ disk h. lacks made words before after m (ends.Failed lists) s test more is answers.SinkFault (inl refl) disk h)
-      (λ disk h. lacks made words before after m (ends.Failed lists) s test more is answers.OutOfMemory (inr refl) disk h) result says
+      (λ disk h. lacks made asking before after m (ends.Failed lists) s test more is answers.SinkFault (inl refl) disk h)
+      (λ disk h. lacks made asking before after m (ends.Failed lists) s test more is answers.OutOfMemory (inr refl) disk h) result says
 
-  pub ended : (end : UpdateAnswer) (s : IsUpdated made words before after m end) (result : Answer) → EndsUpdate s.planned.plan.steps s.tests end m after.out result
-      → Calls made words before after result
+  pub ended : (end : UpdateAnswer) (s : IsUpdated made asking before after m end) (result : Answer) → EndsUpdate s.plan.steps s.tests end m after.out result
+      → CallsFor made asking before after result
   ended ends.Done s result e = ended_done s result s.tests refl e
   ended (ends.Failed lists) s result e = ended_failed lists s result s.tests refl e
-  ended (ends.StepCycle list) s result says = ended_own made words before after m (ends.StepCycle list) s (answers.Refused (faults.StepCycle list))
-      (refusal_report [] s.planned.plan.steps (faults.StepCycle list)) refl s.caused
+  ended (ends.StepCycle list) s result says = ended_own made asking before after m (ends.StepCycle list) s (answers.Refused (faults.StepCycle list))
+      (refusal_report [] s.plan.steps (faults.StepCycle list)) refl s.caused
       (λ disk later b. b) (λ disk later events w. w) (λ c. c) (λ u. cc) tt tt (λ disk. tt) refl (λ disk h. inr (inl refl)) (λ disk h. inr (inr refl)) result says
-  ended (ends.TooBig path size) s result says = ended_own made words before after m (ends.TooBig path size) s (answers.Refused (faults.TooBig path size))
-      (refusal_report [] s.planned.plan.steps (faults.TooBig path size)) (too_big_is path size) s.caused
+  ended (ends.TooBig path size) s result says = ended_own made asking before after m (ends.TooBig path size) s (answers.Refused (faults.TooBig path size))
+      (refusal_report [] s.plan.steps (faults.TooBig path size)) (too_big_is path size) s.caused
       (λ disk later b. b) (λ disk later events w. w) (λ c. c) (λ u. cc) tt tt (λ disk. tt) refl (λ disk h. inr (inl refl)) (λ disk h. inr (inr refl)) result says
-  ended ends.HostFault s result says = ended_fault made words before after m ends.HostFault s refl s.caused.0 s.caused.1 result says
-  ended ends.SinkFault s result e = subst (Calls made words before after) (sym e.0) (cut_sink made words before after m ends.SinkFault s [] [] refl (same_text m after.out e.1)
+  ended ends.HostFault s result says = ended_fault made asking before after m ends.HostFault s refl s.caused.0 s.caused.1 result says
+  ended ends.SinkFault s result e = subst (CallsFor made asking before after) (sym e.0) (cut_sink made asking before after m ends.SinkFault s [] [] refl (same_text m after.out e.1)
       (nothing_begins []) (λ disk h. refl) (sink_now s e.1) (quiet_from before.host s.loaded after.host s.same s.keeps s.caused.1)
-      (kept_same made words before after m ends.SinkFault s e.1))
-  ended ends.OutOfMemory s result e = subst (Calls made words before after) (sym e.0) (cut_memory made words before after m ends.OutOfMemory s [] [] refl (same_text m after.out e.1)
-      (nothing_begins []) (λ disk h. refl) (same_faults e.1 ∙ same_sink made words before after m ends.OutOfMemory s s.caused.0)
-      (kept_same made words before after m ends.OutOfMemory s e.1))
+      (kept_same made asking before after m ends.SinkFault s e.1))
+  ended ends.OutOfMemory s result e = subst (CallsFor made asking before after) (sym e.0) (cut_memory made asking before after m ends.OutOfMemory s [] [] refl (same_text m after.out e.1)
+      (nothing_begins []) (λ disk h. refl) (same_faults e.1 ∙ same_sink made asking before after m ends.OutOfMemory s s.caused.0)
+      (kept_same made asking before after m ends.OutOfMemory s e.1))

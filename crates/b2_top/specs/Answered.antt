@@ -1,7 +1,7 @@
 -- What a call of the build command promises, from the moment of its start to that of its answer.
-use Rattle.std.specs.Prelude.{◌≡◌, ◌⊎◌, ℕ, ◌≤◌, Bool, true, false, List, [], ◌∷◌, ◌++◌, length, Some, None, ⊤}
+use Rattle.std.specs.Prelude.{◌≡◌, ◌⊎◌, ℕ, ◌≤◌, Bool, true, false, List, [], ◌∷◌, ◌++◌, length, Option, Some, None, ⊤}
 use Rattle.std.specs.List.{Contains}
-use Rattle.b2_top.specs.RefusalCauses.{IsPatternRefused}
+use Rattle.b2_top.specs.Askings.{Asking, build_of, IsPatternRefusedIn, IsWholeFor}
 use Rattle.b2_top.specs.Endings.{IsOrCutShort, IsUsageOrCutShort, IfRefused}
 use Rattle.b2_top.specs.BetweenMoments.{CountsStay, HostFailedBeforeReport, StaysStill}
 use Rattle.b2_top.specs.declared.answer.Answer.{Answer}
@@ -20,7 +20,6 @@ use Rattle.b2_plan.specs.Cleans.{Clean}
 use Rattle.b2_plan.specs.Plans.{Makes, step_at}
 use Rattle.b2_log.specs.declared.line.LogLine.{LogLine}
 use Rattle.b2_refusals.specs.Lines.{usage_line}
-use Rattle.b2_refusals.specs.Wholes.{IsWhole}
 use Rattle.b2_refusals.specs.declared.fault.Fault.{Fault}
 use Rattle.b2_refusals.specs.declared.fault.Fault.TheVariants as faults
 use Rattle.b2_runs.specs.Afterwards.{next_update, IsMadeEachTime, IsFreshStep}
@@ -35,26 +34,33 @@ use Rattle.b2_runs.specs.UpdateAnswers.{SinkFailed, WaitFailed, LeavesOpen, HasH
 use Rattle.b2_drain.specs.Drains.{Made}
 use Rattle.b2_command_line.specs.Words.{Word}
 use Rattle.b2_top.specs.Commands.{build_command}
-use Rattle.b2_top.specs.Plans.{HasPlan, update_for, MeetsPremises, TellsApart, making_by}
-use Rattle.b2_top.specs.Builds.{HappenedBy, LeavesClean, run_answer}
+use Rattle.b2_top.specs.Plans.{HasPlanFor, update_for, MeetsPremises, TellsApartFor, making_by}
+use Rattle.b2_top.specs.Builds.{HappenedFor, LeavesCleanFor, run_answer}
 use Rattle.b2_top.specs.Reported.{ReportedBy}
 
 -- ---- files and children
 
 -- each wanted file has the bytes of the clean build of the sources at entry
+abbrev pub CleanFor : Made → Asking → Outside → Outside → Type 0
+CleanFor made asking before after = BothTold (LeavesCleanFor made asking) before.disk after.disk
+
 abbrev pub CleanTold : Made → List Word → Outside → Outside → Type 0
-CleanTold made words before after = BothTold (LeavesClean made words) before.disk after.disk
+CleanTold made words before after = CleanFor made (build_of words) before after
 
 -- what happened, by the answer
+abbrev pub WhatHappened : Made → Asking → Outside → Outside → Answer → Type 0
+WhatHappened made asking before after result =
+    BothTold (λ disk later. HappenedFor made asking before after disk later result) before.disk after.disk
+
 abbrev pub HappenedTold : Made → List Word → Outside → Outside → Answer → Type 0
-HappenedTold made words before after result =
-    BothTold (λ disk later. HappenedBy made words before after disk later result) before.disk after.disk
+HappenedTold made words before after result = WhatHappened made (build_of words) before after result
 
 -- every refusal but that of a step cycle, or of a file that is too big for the update, comes before anything is started
 abbrev pub RefusedStill : Fault → Outside → Outside → Type 0
 RefusedStill (faults.Load fault) before after = StaysStill before after
 RefusedStill (faults.Request fault) before after = StaysStill before after
 RefusedStill (faults.Gen fault) before after = StaysStill before after
+RefusedStill (faults.Jam fault) before after = StaysStill before after
 RefusedStill (faults.StepCycle list) before after = ⊤
 RefusedStill (faults.TooBig path size) before after = ⊤
 
@@ -67,20 +73,26 @@ StartsNone answers.HostFault before after = ⊤
 StartsNone answers.OutOfMemory before after = ⊤
 StartsNone answers.SinkFault before after = ⊤
 
--- over every host, what happened is in order, with the jobs that the words ask for, for some list of steps
-abbrev pub TurnsTold : List Word → Outside → Outside → Answer → Type 0
-TurnsTold words before after result = (command : BuildCommand) → build_command words ≡ Some command → (steps : List Step)
+-- over every host, what happened is in order, with the jobs that are asked for, for some list of steps
+abbrev pub TurnsFor : Option BuildCommand → Outside → Outside → Answer → Type 0
+TurnsFor asked before after result = (command : BuildCommand) → asked ≡ Some command → (steps : List Step)
     × HasHappened steps command.options.jobs before.disk before.children.events after.children.events (run_answer result)
+
+abbrev pub TurnsTold : List Word → Outside → Outside → Answer → Type 0
+TurnsTold words before after result = TurnsFor (build_command words) before after result
 
 -- over every host, what runs afterwards are the children of steps that were left open, of some list of steps
 abbrev pub LeftOpenTold : Outside → Outside → Type 0
 LeftOpenTold before after = (steps : List Step) × LeavesOpen steps before.children after.children
 
 -- a true log stays true, where digests tell contents apart
-abbrev pub TrueLogTold : Made → List Word → Outside → Outside → Type 0
-TrueLogTold made words before after =
-    BothTold (λ disk later. TellsApart words later.past
+abbrev pub TrueLogFor : Made → Option BuildCommand → Outside → Outside → Type 0
+TrueLogFor made asked before after =
+    BothTold (λ disk later. TellsApartFor asked later.past
     → IsTrueOn (making_by made) disk → IsTrueOn (making_by made) later) before.disk after.disk
+
+abbrev pub TrueLogTold : Made → List Word → Outside → Outside → Type 0
+TrueLogTold made words before after = TrueLogFor made (build_command words) before after
 
 -- ---- counts
 
@@ -108,8 +120,8 @@ UsageTold before after result = result ≡ answers.Usage → after.out ≡ with_
 
 -- What should end well: there is a plan, the premises of its update are met, its clean build is defined, no file is too
 -- big, and no child ends badly.
-pub record ShouldEndWell (made : Made) (words : List Word) (before after : Outside) (disk later : Disk) : Type 0 where
-  pub plan : HasPlan words disk
+pub record ShouldEndWellFor (made : Made) (asking : Asking) (before after : Outside) (disk later : Disk) : Type 0 where
+  pub plan : HasPlanFor asking disk
   pub log : List LogLine
   pub is_log : IsLogIn disk.now log
   pub premises : MeetsPremises (update_for made plan log) disk later
@@ -119,33 +131,47 @@ pub record ShouldEndWell (made : Made) (words : List Word) (before after : Outsi
   pub none_large : NoneLarge (update_for made plan log) events
   pub all_well : (i : ℕ) → Contains events (Done i false) → ⊥
 
+abbrev pub ShouldEndWell : Made → List Word → Outside → Outside → Disk → Disk → Type 0
+ShouldEndWell made words before after disk later = ShouldEndWellFor made (build_of words) before after disk later
+
 -- What should end well does, or the call was cut short; or the files and the words come to a pattern that is refused
 -- though it reads as one.
+abbrev pub CompleteFor : Made → Asking → Outside → Outside → Answer → Type 0
+CompleteFor made asking before after result = BothTold (λ disk later.
+    (should : ShouldEndWellFor made asking before after disk later)
+    → IsOrCutShort result answers.Ok ⊎ IsPatternRefusedIn asking.source disk should.plan.command.words result)
+    before.disk after.disk
+
 abbrev pub CompleteTold : Made → List Word → Outside → Outside → Answer → Type 0
-CompleteTold made words before after result = BothTold (λ disk later.
-    (should : ShouldEndWell made words before after disk later)
-    → IsOrCutShort result answers.Ok ⊎ IsPatternRefused disk should.plan.command.words result) before.disk after.disk
+CompleteTold made words before after result = CompleteFor made (build_of words) before after result
 
 -- ---- what was written
 
 -- what was written is the report
-abbrev pub ReportTold : Made → List Word → Moment → Moment → Answer → Type 0
-ReportTold made words before after result = BothTold (λ disk later. (events : List ChildEvent)
+abbrev pub ReportFor : Made → Asking → Moment → Moment → Answer → Type 0
+ReportFor made asking before after result = BothTold (λ disk later. (events : List ChildEvent)
     → after.host.children.events ≡ before.host.children.events ++ events
-    → ReportedBy made words before after disk later events result) before.host.disk after.host.disk
+    → ReportedBy made asking before after disk later events result) before.host.disk after.host.disk
+
+abbrev pub ReportTold : Made → List Word → Moment → Moment → Answer → Type 0
+ReportTold made words before after result = ReportFor made (build_of words) before after result
 
 -- ---- the next update
 
 -- This holds of the update of the plan, where its premises are met; of the events of the call; and of the files and the
 -- log that it left, where the log is within its limit.
-abbrev pub HoldsAfterwards : Made → List Word → Outside → Outside
+abbrev pub HoldsAfter : Made → Asking → Outside → Outside
     → (Update → List ChildEvent → Folder → List LogLine → Type 0) → Type 0
-HoldsAfterwards made words before after Holds = BothTold (λ disk later.
-    (plan : HasPlan words disk) (first log : List LogLine) (events : List ChildEvent)
+HoldsAfter made asking before after Holds = BothTold (λ disk later.
+    (plan : HasPlanFor asking disk) (first log : List LogLine) (events : List ChildEvent)
     → IsLogIn disk.now first → MeetsPremises (update_for made plan first) disk later
     → after.children.events ≡ before.children.events ++ events
     → IsLogIn later.now log → length (held_bytes (log_file later.now)) ≤ log_limit
     → Holds (update_for made plan first) events later.now log) before.disk after.disk
+
+abbrev pub HoldsAfterwards : Made → List Word → Outside → Outside
+    → (Update → List ChildEvent → Folder → List LogLine → Type 0) → Type 0
+HoldsAfterwards made words before after Holds = HoldsAfter made (build_of words) before after Holds
 
 -- Judged anew, each step of which an output was settled is fresh, but for those that an always-step or a notfile step
 -- reaches.
@@ -165,6 +191,7 @@ abbrev pub IsOfCycle : Fault → Type 0
 IsOfCycle (faults.Load fault) = ⊥
 IsOfCycle (faults.Request fault) = ⊥
 IsOfCycle (faults.Gen fault) = ⊥
+IsOfCycle (faults.Jam fault) = ⊥
 IsOfCycle (faults.StepCycle list) = ⊤
 IsOfCycle (faults.TooBig path size) = ⊥
 
@@ -179,22 +206,26 @@ IsOfEnd answers.SinkFault = ⊥
 
 -- ---- all together
 
--- All that a call of the build command with these words promises.
-pub record IsAnswered (made : Made) (words : List Word) (before after : Moment) (result : Answer) : Type 0 where
-  pub clean : result ≡ answers.Ok → CleanTold made words before.host after.host
-  pub happened : HappenedTold made words before.host after.host result
+-- All that a call promises that asks for this.
+pub record IsAnsweredFor (made : Made) (asking : Asking) (before after : Moment) (result : Answer) : Type 0 where
+  pub clean : result ≡ answers.Ok → CleanFor made asking before.host after.host
+  pub happened : WhatHappened made asking before.host after.host result
   pub counts : CountsTold before after result
-  pub usage : build_command words ≡ None → IsUsageOrCutShort result
-  pub alone : build_command words ≡ None → after.host ≡ before.host
-  pub no_usage : result ≡ answers.Usage → build_command words ≡ None
+  pub usage : asking.command ≡ None → IsUsageOrCutShort result
+  pub alone : asking.command ≡ None → after.host ≡ before.host
+  pub no_usage : result ≡ answers.Usage → asking.command ≡ None
   pub usage_told : UsageTold before after result
   pub starts_none : StartsNone result before.host after.host
-  pub whole : IfRefused IsWhole result
-  pub complete : CompleteTold made words before.host after.host result
-  pub reported : ReportTold made words before after result
-  pub turns : TurnsTold words before.host after.host result
+  pub whole : IfRefused (λ fault. IsWholeFor fault asking.source) result
+  pub complete : CompleteFor made asking before.host after.host result
+  pub reported : ReportFor made asking before after result
+  pub turns : TurnsFor asking.command before.host after.host result
   pub left_open : LeftOpenTold before.host after.host
-  pub true_log : TrueLogTold made words before.host after.host
-  pub afterwards : IsOfEnd result → HoldsAfterwards made words before.host after.host AreFresh
-  pub kept : HoldsAfterwards made words before.host after.host AreKept
+  pub true_log : TrueLogFor made asking.command before.host after.host
+  pub afterwards : IsOfEnd result → HoldsAfter made asking before.host after.host AreFresh
+  pub kept : HoldsAfter made asking before.host after.host AreKept
   pub out_keeps : OutKeeps before.out after.out
+
+-- all that a call of the build command with these words promises
+abbrev pub IsAnswered : Made → List Word → Moment → Moment → Answer → Type 0
+IsAnswered made words before after result = IsAnsweredFor made (build_of words) before after result

@@ -5,7 +5,6 @@ use Rattle.b2_top.specs.declared.answer.Answer.TheVariants as answers
 use Rattle.b2_host.specs.Disks.{Disk}
 use Rattle.b2_host.specs.Outside.{Read, Outside}
 use Rattle.b2_plan.specs.Plans.{Apart}
-use Rattle.b2_prepare.specs.Meaning.{AsksTests}
 use Rattle.b2_log.specs.declared.line.LogLine.{LogLine}
 use Rattle.b2_refusals.specs.declared.fault.Fault.{Fault}
 use Rattle.b2_refusals.specs.declared.fault.Fault.TheVariants as faults
@@ -17,19 +16,19 @@ use Rattle.b2_runs.specs.UpdateAnswers.UpdateAnswer.{host_fault, sink_fault, out
 use Rattle.b2_endings.specs.Endings.{lists_of}
 use Rattle.b2_drain.specs.Drains.{Made}
 use Rattle.b2_command_line.specs.Words.{Word}
-use Rattle.b2_top.specs.Commands.{build_command}
-use Rattle.b2_top.specs.Plans.{HasPlan, build_at, update_for, MeetsPremises}
-use Rattle.b2_top.specs.Causes.{HasNoPlan}
+use Rattle.b2_top.specs.Askings.{Asking, build_of, AsksTestsOf}
+use Rattle.b2_top.specs.Plans.{HasPlanFor, build_at, update_for, MeetsPremises}
+use Rattle.b2_top.specs.Causes.{HasNoPlanFor}
 use Rattle.b2_top.specs.LastLines.{LacksVerdicts}
 use Rattle.b2_top.specs.BetweenMoments.{StaysStill}
 
 -- The plan asks for some tests, and the sink failed or memory ran out at their verdicts.
-abbrev pub LacksSome : {words : List Word} → {disk : Disk} → HasPlan words disk → Answer → Type 0
-LacksSome {words} {disk} plan result =
-    (tests : List (List ℕ × ℕ)) × AsksTests disk plan.command.words plan.planned tests × LacksVerdicts tests result
+abbrev pub LacksSome : {asking : Asking} → {disk : Disk} → HasPlanFor asking disk → Answer → Type 0
+LacksSome {asking} {disk} plan result =
+    (tests : List (List ℕ × ℕ)) × AsksTestsOf asking.source disk plan.command.words plan.planned tests × LacksVerdicts tests result
 
 -- The answers of a call whose update ended so: its own, and those of a fault at the last lines, where it has some.
-abbrev pub MayAnswer : {words : List Word} → {disk : Disk} → HasPlan words disk → UpdateAnswer → Answer → Type 0
+abbrev pub MayAnswer : {asking : Asking} → {disk : Disk} → HasPlanFor asking disk → UpdateAnswer → Answer → Type 0
 MayAnswer plan all_went result = (result ≡ answers.Ok) ⊎ LacksSome plan result
 MayAnswer plan (some_failed lists) (answers.Failed named) = lists ≡ lists_of named
 MayAnswer plan (some_failed lists) result = LacksSome plan result
@@ -41,12 +40,12 @@ MayAnswer plan host_fault result = (result ≡ answers.HostFault) ⊎ (result �
 MayAnswer plan sink_fault result = result ≡ answers.SinkFault
 MayAnswer plan out_of_memory result = result ≡ answers.OutOfMemory
 
-module _ (made : Made) (words : List Word) (before after : Outside) (disk later : Disk) where
-  -- There is a plan, and this is its update, which ended so. It began when the project had been loaded, which changes
-  -- nothing but what was read. Whatever the log says, its events are in order. What runs afterwards are the children of
+module _ (made : Made) (asking : Asking) (before after : Outside) (disk later : Disk) where
+  -- There is a plan, and this is its update, which ended so. It began after the load, which changes nothing but what was
+  -- read. Whatever the log says, its events are in order. What runs afterwards are the children of
   -- the steps that it left open.
-  pub record HasBuilt (ended : UpdateAnswer) : Type 0 where
-    pub plan : HasPlan words disk
+  pub record HasBuiltFor (ended : UpdateAnswer) : Type 0 where
+    pub plan : HasPlanFor asking disk
     pub apart : Apart plan.planned.steps plan.planned.roots
     pub reads : Option (List Read)
     pub updated : WithLog disk.now (λ log. MeetsPremises (update_for made plan log) disk later
@@ -57,44 +56,59 @@ module _ (made : Made) (words : List Word) (before after : Outside) (disk later 
 
   -- there is a plan, and its update ended so that the call may have this answer
   abbrev pub HasBuiltUpTo : Answer → Type 0
-  HasBuiltUpTo result = (ended : UpdateAnswer) × (built : HasBuilt ended) × MayAnswer built.plan ended result
+  HasBuiltUpTo result = (ended : UpdateAnswer) × (built : HasBuiltFor ended) × MayAnswer built.plan ended result
 
   -- nothing was done, for a cause that the words and the files have
   abbrev pub IsRefusedEarly : Fault → Type 0
-  IsRefusedEarly fault = StaysStill before after × ((echoes : List Word) × HasNoPlan words disk echoes fault)
+  IsRefusedEarly fault = StaysStill before after × ((echoes : List Word) × HasNoPlanFor asking disk echoes fault)
 
   -- a refusal: a step cycle and a file that is too big come in an update, any other before it
-  abbrev pub RefusedBy : Fault → Type 0
-  RefusedBy (faults.Load fault) = IsRefusedEarly (faults.Load fault)
-  RefusedBy (faults.Request fault) = IsRefusedEarly (faults.Request fault)
-  RefusedBy (faults.Gen fault) = IsRefusedEarly (faults.Gen fault)
-  RefusedBy (faults.StepCycle list) = HasBuilt (step_cycle list)
-  RefusedBy (faults.TooBig path size) = HasBuilt (too_big path size)
+  abbrev pub RefusedFor : Fault → Type 0
+  RefusedFor (faults.Load fault) = IsRefusedEarly (faults.Load fault)
+  RefusedFor (faults.Request fault) = IsRefusedEarly (faults.Request fault)
+  RefusedFor (faults.Gen fault) = IsRefusedEarly (faults.Gen fault)
+  RefusedFor (faults.Jam fault) = IsRefusedEarly (faults.Jam fault)
+  RefusedFor (faults.StepCycle list) = HasBuiltFor (step_cycle list)
+  RefusedFor (faults.TooBig path size) = HasBuiltFor (too_big path size)
 
   -- What happened, by the answer: an update that ended with it, nothing, or one of both, where a fault cut the call off.
-  abbrev pub HappenedBy : Answer → Type 0
-  HappenedBy answers.Ok = HasBuilt all_went
-  HappenedBy (answers.Failed lists) = HasBuilt (some_failed (lists_of lists))
-  HappenedBy (answers.Refused fault) = RefusedBy fault
-  HappenedBy answers.Usage = StaysStill before after × (build_command words ≡ None)
-  HappenedBy answers.HostFault = StaysStill before after ⊎ HasBuilt host_fault
-  HappenedBy answers.OutOfMemory = StaysStill before after ⊎ HasBuiltUpTo answers.OutOfMemory
-  HappenedBy answers.SinkFault = StaysStill before after ⊎ HasBuiltUpTo answers.SinkFault
+  abbrev pub HappenedFor : Answer → Type 0
+  HappenedFor answers.Ok = HasBuiltFor all_went
+  HappenedFor (answers.Failed lists) = HasBuiltFor (some_failed (lists_of lists))
+  HappenedFor (answers.Refused fault) = RefusedFor fault
+  HappenedFor answers.Usage = StaysStill before after × (asking.command ≡ None)
+  HappenedFor answers.HostFault = StaysStill before after ⊎ HasBuiltFor host_fault
+  HappenedFor answers.OutOfMemory = StaysStill before after ⊎ HasBuiltUpTo answers.OutOfMemory
+  HappenedFor answers.SinkFault = StaysStill before after ⊎ HasBuiltUpTo answers.SinkFault
+
+-- the same of the words of a build
+abbrev pub HasBuilt : Made → List Word → Outside → Outside → Disk → Disk → UpdateAnswer → Type 0
+HasBuilt made words before after disk later ended = HasBuiltFor made (build_of words) before after disk later ended
+
+abbrev pub RefusedBy : Made → List Word → Outside → Outside → Disk → Disk → Fault → Type 0
+RefusedBy made words before after disk later fault = RefusedFor made (build_of words) before after disk later fault
+
+abbrev pub HappenedBy : Made → List Word → Outside → Outside → Disk → Disk → Answer → Type 0
+HappenedBy made words before after disk later result = HappenedFor made (build_of words) before after disk later result
 
 -- There is a plan, and where the premises of its update are met, each wanted file has the bytes of the clean build of the
 -- sources at entry.
-pub record LeavesClean (made : Made) (words : List Word) (before after : Disk) : Type 0 where
-  pub plan : HasPlan words before
+pub record LeavesCleanFor (made : Made) (asking : Asking) (before after : Disk) : Type 0 where
+  pub plan : HasPlanFor asking before
   pub log : List LogLine
   pub is_log : IsLogIn before.now log
   pub clean : MeetsPremises (update_for made plan log) before after
       → IsCleanBuild (build_at made plan.planned before.now) after.now
+
+abbrev pub LeavesClean : Made → List Word → Disk → Disk → Type 0
+LeavesClean made words before after = LeavesCleanFor made (build_of words) before after
 
 -- The answer of the update in a call. Where there was none it stands like that of a fault: it names no step.
 abbrev pub run_refused : Fault → UpdateAnswer
 run_refused (faults.Load fault) = host_fault
 run_refused (faults.Request fault) = host_fault
 run_refused (faults.Gen fault) = host_fault
+run_refused (faults.Jam fault) = host_fault
 run_refused (faults.StepCycle list) = step_cycle list
 run_refused (faults.TooBig path size) = too_big path size
 

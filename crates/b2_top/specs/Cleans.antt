@@ -21,7 +21,7 @@ use Rattle.b2_explain.specs.Faults.{CleanCounts}
 use Rattle.b2_explain.specs.Cleaning.{IsToClean, IsCleaned, removals, removal_lines, CleanTold, CleanWritten}
 use Rattle.b2_explain.specs.Lines.{removed_line, removed_count_line}
 use Rattle.b2_refusals.specs.Lines.{usage_line}
-use Rattle.b2_refusals.specs.Wholes.{IsWhole}
+use Rattle.b2_top.specs.Askings.{IsProjectRefusal}
 use Rattle.b2_top.specs.declared.answer.Answer.{Answer}
 use Rattle.b2_top.specs.declared.answer.Answer.TheVariants as answers
 use Rattle.b2_top.specs.Asked.{clean_words}
@@ -140,7 +140,7 @@ pub record IsAnswered (words : List Word) (before after : Moment) (result : Answ
   pub no_usage : result ≡ answers.Usage → clean_words words ≡ None
   pub usage_told : UsageTold before after result
   pub cause : CauseTold words before.host result
-  pub whole : IfRefused IsWhole result
+  pub whole : IfRefused IsProjectRefusal result
   pub not_failed : IsOfLook result
   pub complete : CompleteTold words before.host result
 

@@ -26,7 +26,7 @@ use Rattle.b2_explain.specs.Lines.{why_lines}
 use Rattle.b2_refusals.specs.declared.fault.Fault.{Fault}
 use Rattle.b2_refusals.specs.declared.fault.Fault.TheVariants as faults
 use Rattle.b2_refusals.specs.Lines.{usage_line}
-use Rattle.b2_refusals.specs.Wholes.{IsWhole}
+use Rattle.b2_top.specs.Askings.{IsProjectRefusal}
 use Rattle.b2_top.specs.declared.answer.Answer.{Answer}
 use Rattle.b2_top.specs.declared.answer.Answer.TheVariants as answers
 use Rattle.b2_top.specs.declared.asked.ExplainCommand.{ExplainCommand}
@@ -149,6 +149,7 @@ abbrev pub IsOfExplaining : Fault → Type 0
 IsOfExplaining (faults.Load fault) = ⊤
 IsOfExplaining (faults.Request fault) = ⊤
 IsOfExplaining (faults.Gen fault) = ⊤
+IsOfExplaining (faults.Jam fault) = ⊥
 IsOfExplaining (faults.StepCycle list) = ⊥
 IsOfExplaining (faults.TooBig path size) = ⊤
 
@@ -186,7 +187,7 @@ pub record IsAnswered (words : List Word) (before after : Moment) (result : Answ
   pub no_usage : result ≡ answers.Usage → explain_command words ≡ None
   pub usage_told : UsageTold before after result
   pub cause : CauseTold words before.host result
-  pub whole : IfRefused IsWhole result
+  pub whole : IfRefused IsProjectRefusal result
   pub not_failed : IsOfExplain result
   pub complete : CompleteTold words before.host result
 

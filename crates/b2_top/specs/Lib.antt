@@ -6,6 +6,7 @@
 -- `Told`: what is said of two moments
 -- Of a build:
 -- `Commands`: which words are a build
+-- `Askings`: what is asked for of the project, or of a Jam file, and what it comes to
 -- `Plans`: the plan that the words and the files come to, its update, and the premises
 -- `Causes`: why a build is refused before anything starts
 -- `Builds`: what a build does to files and children
@@ -30,6 +31,7 @@ pub mod Writing
 pub mod BetweenMoments
 pub mod Commands
 pub mod Laws
+pub mod Askings
 pub mod Plans
 pub mod Causes
 pub mod LastLines

@@ -3,10 +3,13 @@ use Rattle.std.specs.Prelude.{◌||◌, Bool, List, [], ◌∷◌, Option, Some,
 use Rattle.std.specs.Str.{bytes_eq}
 use Rattle.b2_command_line.specs.Words.{Word, after_lead}
 use Rattle.b2_top.specs.declared.mode.Mode.{Mode}
-use Rattle.b2_top.specs.declared.mode.Mode.TheVariants.{Build, Look, Explain, Clean, Drill}
+use Rattle.b2_top.specs.declared.mode.Mode.TheVariants.{Build, Look, Explain, Clean, Drill, Jam}
 
 abbrev pub is_drill : Word → Bool
 is_drill word = is_some (after_lead (codes "--drill=") word)
+
+abbrev pub is_file : Word → Bool
+is_file word = bytes_eq word (codes "-f")
 
 -- what a word alone asks for
 abbrev pub mode_named : Word → Option Mode
@@ -29,4 +32,4 @@ mode_asked (word ∷ rest) =
 
 abbrev pub mode_of : List Word → Mode
 mode_of [] = Build
-mode_of (word ∷ rest) = if is_drill word then Drill else unwrap_or (mode_asked (word ∷ rest)) Build
+mode_of (word ∷ rest) = if is_file word then Jam else if is_drill word then Drill else unwrap_or (mode_asked (word ∷ rest)) Build

@@ -1,7 +1,6 @@
 -- Plans, and the updates of them that are asked for.
-use Rattle.std.specs.Prelude.{◌≡◌, true, List, [], Some, None, Ok, if◌then◌else◌}
+use Rattle.std.specs.Prelude.{◌≡◌, true, List, [], Option, Some, if◌then◌else◌}
 use Rattle.std.proofs.Common.{ap}
-use Rattle.b2_prepare.specs.Meaning.{Means}
 use Rattle.b2_generate.specs.Planning.{Planned}
 use Rattle.b2_host.specs.Disks.{Folder, Disk, Past}
 use Rattle.b2_plan.specs.Sources.{Build}
@@ -18,15 +17,20 @@ use Rattle.b2_update.specs.declared.options.Options.{Options}
 use Rattle.b2_command_line.specs.Words.{Word}
 use Rattle.b2_command_line.specs.declared.words.BuildOptions.{BuildOptions}
 use Rattle.b2_top.specs.declared.build_command.BuildCommand.{BuildCommand}
+use Rattle.b2_top.specs.Askings.{Asking, build_of, ComesTo}
 use Rattle.b2_top.specs.Commands.{build_command}
 
--- The words ask for a build, and the files and the free words come to this plan.
-pub record HasPlan (words : List Word) (disk : Disk) : Type 0 where
+-- A command is asked for, and the files and its free words come to this plan.
+pub record HasPlanFor (asking : Asking) (disk : Disk) : Type 0 where
   pub command : BuildCommand
   pub echoes : List Word
   pub planned : Planned
-  pub asked : build_command words ≡ Some command
-  pub means : Means disk None command.words echoes (Ok planned)
+  pub asked : asking.command ≡ Some command
+  pub means : ComesTo asking.source disk command.words echoes planned
+
+-- The words ask for a build, and the files and the free words come to this plan.
+abbrev pub HasPlan : List Word → Disk → Type 0
+HasPlan words disk = HasPlanFor (build_of words) disk
 
 -- how an update is asked for by the options of a build
 abbrev pub options_of : BuildOptions → Options
@@ -58,9 +62,9 @@ update_at made options planned folder log = record {
   jobs = options.jobs;
 }
 
--- the update of the plan that words and files come to, as the words ask for it
-abbrev pub update_for : {words : List Word} → {disk : Disk} → Made → HasPlan words disk → List LogLine → Update
-update_for {words} {disk} made plan log = update_at made (options_of plan.command.options) plan.planned disk.now log
+-- the update of the plan that words and files come to, as it is asked for
+abbrev pub update_for : {asking : Asking} → {disk : Disk} → Made → HasPlanFor asking disk → List LogLine → Update
+update_for {asking} {disk} made plan log = update_at made (options_of plan.command.options) plan.planned disk.now log
 
 -- What is assumed of an update between two disks: the lines of the log at entry that it uses are true, and digests tell
 -- contents apart where it compares them.
@@ -68,10 +72,13 @@ pub record MeetsPremises (u : Update) (before after : Disk) : Type 0 where
   pub uses_true : UsesTrueLines u before
   pub distinct : Distinguishes u after.past
 
--- where the words ask for judging by digests, no two contents of the past have one
-abbrev pub TellsApart : List Word → List Past → Type 0
-TellsApart words past = (command : BuildCommand) → build_command words ≡ Some command
+-- where judging by digests is asked for, no two contents of the past have one
+abbrev pub TellsApartFor : Option BuildCommand → List Past → Type 0
+TellsApartFor asked past = (command : BuildCommand) → asked ≡ Some command
     → command.options.digest ≡ true → NoCollision digest_of past
+
+abbrev pub TellsApart : List Word → List Past → Type 0
+TellsApart words past = TellsApartFor (build_command words) past
 
 -- what is made of bytes in an update
 abbrev pub making_by : Made → Making

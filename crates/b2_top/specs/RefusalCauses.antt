@@ -4,6 +4,7 @@ use Rattle.b2_host.specs.Disks.{Disk}
 use Rattle.jam_journal.specs.Tables.{Text}
 use Rattle.jam_effects.specs.Causes.{refused_by}
 use Rattle.jam_effects.specs.declared.fault.EvalFault.{EvalFault}
+use Rattle.jam_graph.specs.Loading.{refused_in}
 use Rattle.b2_project_walk.specs.Faults.{refused_by as load_refused_by}
 use Rattle.b2_alternatives.specs.declared.fault.ChoiceFault.{ChoiceFault}
 use Rattle.b2_alternatives.specs.declared.fault.ChoiceFault.TheVariants as choosing
@@ -32,6 +33,7 @@ abbrev pub HasCause : Disk → List Text → List Text → Fault → Type 0
 HasCause disk words echoes (faults.Load fault) = IsPrepared disk words echoes (Err (stops.Refused (refusals.Load fault)))
 HasCause disk words echoes (faults.Request fault) = IsPrepared disk words echoes (Err (stops.Refused (refusals.Request fault)))
 HasCause disk words echoes (faults.Gen fault) = IsPrepared disk words echoes (Err (stops.Refused (refusals.Generation fault)))
+HasCause disk words echoes (faults.Jam fault) = ⊥
 HasCause disk words echoes (faults.StepCycle list) = ⊥
 HasCause disk words echoes (faults.TooBig path size) = ⊥
 
@@ -53,6 +55,7 @@ pattern_of_generation _ = None
 abbrev pub pattern_of : Fault → Option Text
 pattern_of (faults.Load fault) = load_refused_by fault
 pattern_of (faults.Gen fault) = pattern_of_generation fault
+pattern_of (faults.Jam fault) = refused_in fault
 pattern_of _ = None
 
 abbrev pub IsOfPattern : Fault → Type 0

@@ -9,7 +9,6 @@ use Rattle.b2_base.specs.Counts.{Rose}
 use Rattle.b2_base.specs.Bytes.{IsFrontOf}
 use Rattle.b2_host.specs.Output.{Output}
 use Rattle.b2_host.specs.declared.children.ChildEvent.{ChildEvent}
-use Rattle.b2_prepare.specs.Meaning.{BeginLoad, AsksTests}
 use Rattle.b2_refusals.specs.Lines.{usage_line}
 use Rattle.b2_refusals.specs.declared.fault.Fault.{Fault}
 use Rattle.b2_refusals.specs.declared.fault.Fault.TheVariants as faults
@@ -19,10 +18,10 @@ use Rattle.b2_runs.specs.UpdateAnswers.UpdateAnswer.{all_went, failed as some_fa
 use Rattle.b2_endings.specs.Endings.{lists_of}
 use Rattle.b2_drain.specs.Drains.{Made}
 use Rattle.b2_command_line.specs.Words.{Word}
-use Rattle.b2_top.specs.Commands.{build_command}
+use Rattle.b2_top.specs.Askings.{Asking, AsksTestsOf, BeginsLoad}
 use Rattle.b2_top.specs.BetweenMoments.{StaysStill, Wrote}
-use Rattle.b2_top.specs.Plans.{HasPlan, update_for, MeetsPremises}
-use Rattle.b2_top.specs.Causes.{HasNoPlan}
+use Rattle.b2_top.specs.Plans.{HasPlanFor, update_for, MeetsPremises}
+use Rattle.b2_top.specs.Causes.{HasNoPlanFor}
 use Rattle.b2_top.specs.Builds.{MayAnswer}
 use Rattle.b2_top.specs.LastLines.{AreLast}
 
@@ -39,42 +38,42 @@ IsToldOrCut sink sink_after part whole =
 
 -- ---- before anything is started
 
--- The fault is what the words and the files come to, and this is its report.
-pub record IsRefusalReport (words : List Word) (disk : Disk) (fault : Fault) (written : List ℕ) : Type 0 where
+-- The fault is what the files and the free words come to, and this is its report.
+pub record IsRefusalReport (asking : Asking) (disk : Disk) (fault : Fault) (written : List ℕ) : Type 0 where
   pub echoes : List Word
-  pub cause : HasNoPlan words disk echoes fault
+  pub cause : HasNoPlanFor asking disk echoes fault
   pub is : written ≡ refusal_report echoes [] fault
 
--- The words ask for a build, and these are lines of ECHO that begin those of the load, and the line of a fault of the host.
-pub record IsFaultReport (words : List Word) (disk : Disk) (written : List ℕ) : Type 0 where
+-- A command is asked for, and these are lines of ECHO that begin those of the load, and the line of a fault of the host.
+pub record IsFaultReport (asking : Asking) (disk : Disk) (written : List ℕ) : Type 0 where
   pub command : BuildCommand
-  pub asked : build_command words ≡ Some command
+  pub asked : asking.command ≡ Some command
   pub echoes : List Word
-  pub begins : BeginLoad disk command.words echoes
+  pub begins : BeginsLoad asking.source disk command.words echoes
   pub is : written ≡ fault_report echoes
 
--- All that may be written before anything is started: the usage line, where no build is asked for; the report of a
+-- All that may be written before anything is started: the usage line, where no command is asked for; the report of a
 -- refusal with its cause; and the lines of ECHO of the plan.
-pub data IsEarlyReport (words : List Word) (disk : Disk) (written : List ℕ) : Type 0 where
-  usage : build_command words ≡ None → written ≡ usage_line → IsEarlyReport words disk written
-  refusal : (fault : Fault) → IsRefusalReport words disk fault written → IsEarlyReport words disk written
-  echoing : (plan : HasPlan words disk) → written ≡ echo_lines plan.echoes → IsEarlyReport words disk written
+pub data IsEarlyReport (asking : Asking) (disk : Disk) (written : List ℕ) : Type 0 where
+  usage : asking.command ≡ None → written ≡ usage_line → IsEarlyReport asking disk written
+  refusal : (fault : Fault) → IsRefusalReport asking disk fault written → IsEarlyReport asking disk written
+  echoing : (plan : HasPlanFor asking disk) → written ≡ echo_lines plan.echoes → IsEarlyReport asking disk written
 
 -- a beginning of such a report
-abbrev pub BeginsEarly : List Word → Disk → List ℕ → Type 0
-BeginsEarly words disk written = (whole : List ℕ) × IsEarlyReport words disk whole × IsFrontOf written whole
+abbrev pub BeginsEarly : Asking → Disk → List ℕ → Type 0
+BeginsEarly asking disk written = (whole : List ℕ) × IsEarlyReport asking disk whole × IsFrontOf written whole
 
 -- what was written where memory ran out: maybe nothing, or a beginning of the report of a fault of the host
-pub data BeginsSome (words : List Word) (disk : Disk) (host host_after : ℕ) (written : List ℕ) : Type 0 where
-  nothing : written ≡ [] → BeginsSome words disk host host_after written
-  reporting : BeginsEarly words disk written → BeginsSome words disk host host_after written
-  faulting : (whole : List ℕ) → Rose host host_after → IsFaultReport words disk whole → IsFrontOf written whole
-      → BeginsSome words disk host host_after written
+pub data BeginsSome (asking : Asking) (disk : Disk) (host host_after : ℕ) (written : List ℕ) : Type 0 where
+  nothing : written ≡ [] → BeginsSome asking disk host host_after written
+  reporting : BeginsEarly asking disk written → BeginsSome asking disk host host_after written
+  faulting : (whole : List ℕ) → Rose host host_after → IsFaultReport asking disk whole → IsFrontOf written whole
+      → BeginsSome asking disk host host_after written
 
 -- what was written where the host failed
-abbrev pub TellsFault : List Word → Disk → Output → Output → List ℕ → Type 0
-TellsFault words disk sink sink_after written =
-    (whole : List ℕ) × IsFaultReport words disk whole × IsToldOrCut sink sink_after written whole
+abbrev pub TellsFault : Asking → Disk → Output → Output → List ℕ → Type 0
+TellsFault asking disk sink sink_after written =
+    (whole : List ℕ) × IsFaultReport asking disk whole × IsToldOrCut sink sink_after written whole
 
 -- nothing was started, no file has changed, and bytes of which this holds were written
 abbrev pub WroteEarly : Moment → Moment → List ChildEvent → (List ℕ → Type 0) → Type 0
@@ -83,14 +82,14 @@ WroteEarly before after events Holds =
 
 -- ---- by the answer
 
-module _ (made : Made) (words : List Word) (before after : Moment) (disk later : Disk) (events : List ChildEvent) where
+module _ (made : Made) (asking : Asking) (before after : Moment) (disk later : Disk) (events : List ChildEvent) where
   -- There is a plan, and its update ended so. Where its premises are met, the lines of ECHO were written, those that
   -- the update writes, and of the last lines a part of which this holds. The last lines are the verdicts of the tests that
   -- the plan asks for, or the line of a refusal.
   pub record WroteUpdate (ended : UpdateAnswer) (Holds : List ℕ → List ℕ → Type 0) : Type 0 where
-    pub plan : HasPlan words disk
+    pub plan : HasPlanFor asking disk
     pub tests : List (List ℕ × ℕ)
-    pub asks : AsksTests disk plan.command.words plan.planned tests
+    pub asks : AsksTestsOf asking.source disk plan.command.words plan.planned tests
     pub last : List ℕ
     pub are_last : AreLast plan.planned.steps tests ended last
     pub wrote : WithLog disk.now (λ log. MeetsPremises (update_for made plan log) disk later
@@ -104,9 +103,10 @@ module _ (made : Made) (words : List Word) (before after : Moment) (disk later :
 
   -- the report of a refusal
   abbrev pub RefusalTold : Fault → Type 0
-  RefusalTold (faults.Load fault) = WroteEarly before after events (IsRefusalReport words disk (faults.Load fault))
-  RefusalTold (faults.Request fault) = WroteEarly before after events (IsRefusalReport words disk (faults.Request fault))
-  RefusalTold (faults.Gen fault) = WroteEarly before after events (IsRefusalReport words disk (faults.Gen fault))
+  RefusalTold (faults.Load fault) = WroteEarly before after events (IsRefusalReport asking disk (faults.Load fault))
+  RefusalTold (faults.Request fault) = WroteEarly before after events (IsRefusalReport asking disk (faults.Request fault))
+  RefusalTold (faults.Gen fault) = WroteEarly before after events (IsRefusalReport asking disk (faults.Gen fault))
+  RefusalTold (faults.Jam fault) = WroteEarly before after events (IsRefusalReport asking disk (faults.Jam fault))
   RefusalTold (faults.StepCycle list) = WroteUpdate (step_cycle list) IsAllOf
   RefusalTold (faults.TooBig path size) = WroteUpdate (too_big path size) IsAllOf
 
@@ -116,9 +116,9 @@ module _ (made : Made) (words : List Word) (before after : Moment) (disk later :
   ReportedBy (answers.Failed lists) = WroteUpdate (some_failed (lists_of lists)) IsAllOf
   ReportedBy (answers.Refused fault) = RefusalTold fault
   ReportedBy answers.Usage = WroteEarly before after events (λ written. written ≡ usage_line)
-  ReportedBy answers.HostFault = WroteEarly before after events (TellsFault words disk before.out after.out)
+  ReportedBy answers.HostFault = WroteEarly before after events (TellsFault asking disk before.out after.out)
       ⊎ WroteUpdate host_fault (IsToldOrCut before.out after.out)
   ReportedBy answers.OutOfMemory =
-      WroteEarly before after events (BeginsSome words disk before.host.faults after.host.faults)
+      WroteEarly before after events (BeginsSome asking disk before.host.faults after.host.faults)
       ⊎ WroteUpTo answers.OutOfMemory
-  ReportedBy answers.SinkFault = WroteEarly before after events (BeginsEarly words disk) ⊎ WroteUpTo answers.SinkFault
+  ReportedBy answers.SinkFault = WroteEarly before after events (BeginsEarly asking disk) ⊎ WroteUpTo answers.SinkFault

@@ -1,7 +1,7 @@
 -- What the parts of a call do.
 use Rattle.std.specs.Prelude.{◌≡◌, ℕ, List, [], ◌∷◌, Some, None, Result, Err, IfSome, ⊤}
 use Rattle.b2_top.specs.Reports.{echo_lines, refusal_report, fault_report}
-use Rattle.b2_top.specs.RefusalCauses.{IsPatternRefused}
+use Rattle.b2_top.specs.Askings.{Asking, build_of, IsPatternRefusedIn, IsWholeFor}
 use Rattle.b2_top.specs.Writing.{Writes, unwritten, Says, SaysFault}
 use Rattle.b2_top.specs.declared.answer.Answer.{Answer}
 use Rattle.b2_top.specs.declared.answer.Answer.TheVariants as answers
@@ -12,7 +12,6 @@ use Rattle.b2_host.specs.OutputLaws.{OutKeeps}
 use Rattle.b2_host.specs.declared.fault.IoFault.{IoFault}
 use Rattle.b2_plan.specs.declared.plan.Plan.{Plan}
 use Rattle.b2_plan.specs.declared.step.Step.{Step}
-use Rattle.b2_refusals.specs.Wholes.{IsWhole}
 use Rattle.b2_refusals.specs.declared.fault.Fault.{Fault}
 use Rattle.b2_refusals.specs.declared.fault.Fault.TheVariants as faults
 use Rattle.b2_runs.specs.Moments.{Moment}
@@ -28,8 +27,8 @@ use Rattle.b2_command_line.specs.Words.{Word}
 use Rattle.b2_top.specs.Commands.{build_command}
 use Rattle.b2_top.specs.Endings.{IsUsageOrCutShort, IfRefused}
 use Rattle.b2_top.specs.LastLines.{AreVerdictLines}
-use Rattle.b2_top.specs.Plans.{HasPlan}
-use Rattle.b2_top.specs.Answered.{HappenedTold, CountsTold, UsageTold, StartsNone, ReportTold, TurnsTold, LeftOpenTold}
+use Rattle.b2_top.specs.Plans.{HasPlanFor}
+use Rattle.b2_top.specs.Answered.{WhatHappened, CountsTold, UsageTold, StartsNone, ReportFor, TurnsFor, LeftOpenTold}
 
 -- ---- an update
 
@@ -92,34 +91,40 @@ pub data Runs (made : Made) (echoes : List Word) (options : Options) (plan : Pla
   stops : (fault : IoFault) → Writes {T = Unit {0}} (echo_lines echoes) before.out after.out (Err fault)
       → after.host ≡ before.host → result ≡ unwritten fault → Runs made echoes options plan tests before after result
 
--- ---- a build
+-- ---- a call
 
 -- where there is a plan, a refusal before its update is that of a pattern which is refused though it reads as one
-abbrev pub OnlyPatternRefused : List Word → Disk → Fault → Type 0
-OnlyPatternRefused words disk (faults.Load fault) = (plan : HasPlan words disk)
-    → IsPatternRefused disk plan.command.words (answers.Refused (faults.Load fault))
-OnlyPatternRefused words disk (faults.Request fault) = (plan : HasPlan words disk)
-    → IsPatternRefused disk plan.command.words (answers.Refused (faults.Request fault))
-OnlyPatternRefused words disk (faults.Gen fault) = (plan : HasPlan words disk)
-    → IsPatternRefused disk plan.command.words (answers.Refused (faults.Gen fault))
-OnlyPatternRefused words disk (faults.StepCycle list) = ⊤
-OnlyPatternRefused words disk (faults.TooBig path size) = ⊤
+abbrev pub OnlyPattern : Asking → Disk → Fault → Type 0
+OnlyPattern asking disk fault = (plan : HasPlanFor asking disk)
+    → IsPatternRefusedIn asking.source disk plan.command.words (answers.Refused fault)
+
+abbrev pub OnlyPatternRefused : Asking → Disk → Fault → Type 0
+OnlyPatternRefused asking disk (faults.Load fault) = OnlyPattern asking disk (faults.Load fault)
+OnlyPatternRefused asking disk (faults.Request fault) = OnlyPattern asking disk (faults.Request fault)
+OnlyPatternRefused asking disk (faults.Gen fault) = OnlyPattern asking disk (faults.Gen fault)
+OnlyPatternRefused asking disk (faults.Jam fault) = OnlyPattern asking disk (faults.Jam fault)
+OnlyPatternRefused asking disk (faults.StepCycle list) = ⊤
+OnlyPatternRefused asking disk (faults.TooBig path size) = ⊤
 
 -- What a call does, of which the rest of its promises follows.
-pub record Calls (made : Made) (words : List Word) (before after : Moment) (result : Answer) : Type 0 where
-  pub happened : HappenedTold made words before.host after.host result
+pub record CallsFor (made : Made) (asking : Asking) (before after : Moment) (result : Answer) : Type 0 where
+  pub happened : WhatHappened made asking before.host after.host result
   pub counts : CountsTold before after result
-  pub usage : build_command words ≡ None → IsUsageOrCutShort result
-  pub alone : build_command words ≡ None → after.host ≡ before.host
-  pub no_usage : result ≡ answers.Usage → build_command words ≡ None
+  pub usage : asking.command ≡ None → IsUsageOrCutShort result
+  pub alone : asking.command ≡ None → after.host ≡ before.host
+  pub no_usage : result ≡ answers.Usage → asking.command ≡ None
   pub usage_told : UsageTold before after result
   pub starts_none : StartsNone result before.host after.host
-  pub whole : IfRefused IsWhole result
-  pub patterns : IfSome before.host.disk (λ disk. IfRefused (OnlyPatternRefused words disk) result)
-  pub reported : ReportTold made words before after result
-  pub turns : TurnsTold words before.host after.host result
+  pub whole : IfRefused (λ fault. IsWholeFor fault asking.source) result
+  pub patterns : IfSome before.host.disk (λ disk. IfRefused (OnlyPatternRefused asking disk) result)
+  pub reported : ReportFor made asking before after result
+  pub turns : TurnsFor asking.command before.host after.host result
   pub left_open : LeftOpenTold before.host after.host
   pub out_keeps : OutKeeps before.out after.out
+
+-- the same of the words of a build
+abbrev pub Calls : Made → List Word → Moment → Moment → Answer → Type 0
+Calls made words before after result = CallsFor made (build_of words) before after result
 
 -- what is promised of each list of words that asks for this build
 abbrev pub Builds : Made → BuildCommand → Moment → Moment → Answer → Type 0

@@ -15,7 +15,7 @@ use Rattle.b2_runs.specs.UpdateAnswers.{SinkFailed}
 use Rattle.b2_refusals.specs.declared.fault.Fault.{Fault}
 use Rattle.b2_refusals.specs.declared.fault.Fault.TheVariants as faults
 use Rattle.b2_refusals.specs.Lines.{usage_line}
-use Rattle.b2_refusals.specs.Wholes.{IsWhole}
+use Rattle.b2_top.specs.Askings.{IsProjectRefusal}
 use Rattle.b2_top.specs.declared.answer.Answer.{Answer}
 use Rattle.b2_top.specs.declared.answer.Answer.TheVariants as answers
 use Rattle.b2_top.specs.Endings.{IsOrCutShort, IsUsageOrCutShort, IfRefused}
@@ -133,6 +133,7 @@ abbrev pub IsOfPlanning : Fault → Type 0
 IsOfPlanning (faults.Load fault) = ⊤
 IsOfPlanning (faults.Request fault) = ⊤
 IsOfPlanning (faults.Gen fault) = ⊤
+IsOfPlanning (faults.Jam fault) = ⊥
 IsOfPlanning (faults.StepCycle list) = ⊥
 IsOfPlanning (faults.TooBig path size) = ⊥
 
@@ -161,7 +162,7 @@ pub record IsAnswered (words : List Word) (before after : Moment) (result : Answ
   pub alone : look_of words ≡ None → after.host ≡ before.host
   pub no_usage : result ≡ answers.Usage → look_of words ≡ None
   pub usage_told : UsageTold before after result
-  pub whole : IfRefused IsWhole result
+  pub whole : IfRefused IsProjectRefusal result
   pub not_failed : IsOfLook result
   pub complete : CompleteTold words before.host result
   pub cause : CauseTold words before.host result

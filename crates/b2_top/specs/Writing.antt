@@ -10,7 +10,10 @@ use Rattle.b2_prepare.specs.declared.refusal.PlanStop.{PlanStop}
 use Rattle.b2_prepare.specs.declared.refusal.PlanStop.TheVariants as stops
 use Rattle.b2_top.specs.declared.answer.Answer.{Answer}
 use Rattle.b2_top.specs.declared.answer.Answer.TheVariants as answers
+use Rattle.b2_refusals.specs.declared.fault.Fault.TheVariants as faults_of
 use Rattle.b2_top.specs.RefusalCauses.{fault_of}
+use Rattle.jam_graph.specs.declared.fault.JamFault.{JamFault}
+use Rattle.jam_graph.specs.declared.fault.JamFault.TheVariants as jam
 use Rattle.b2_top.specs.Reports.{refusal_report, fault_report}
 
 -- A write failed, where one may: a beginning of the bytes was written, and the count of faults rose. Whether a write
@@ -60,3 +63,10 @@ AnswersStop echoes (stops.Refused why) before after result =
 AnswersStop echoes stops.HostInLoad before after result = SaysFault (fault_report echoes) before after result
 AnswersStop echoes stops.HostInGeneration before after result = SaysFault (fault_report echoes) before after result
 AnswersStop echoes stops.OutOfMemory before after result = (result ≡ answers.OutOfMemory) × (after ≡ before)
+
+-- the answer where a Jam file and targets have no plan
+abbrev pub AnswersJam : List (List ℕ) → JamFault → Output → Output → Answer → Type 0
+AnswersJam echoes jam.Host before after result = SaysFault (fault_report echoes) before after result
+AnswersJam echoes jam.OutOfMemory before after result = (result ≡ answers.OutOfMemory) × (after ≡ before)
+AnswersJam echoes fault before after result =
+    Says (answers.Refused (faults_of.Jam fault)) (refusal_report echoes [] (faults_of.Jam fault)) before after result

@@ -27,7 +27,7 @@ use std::alloc::Global;
 use std::mem::forget;
 
 /// How an update is asked for by the options of a build.
-fn options_of(options: BuildOptions) -> Options
+pub(crate) fn options_of(options: BuildOptions) -> Options
     ensures { result ≡ options_of options }
 {
     Options {
@@ -75,7 +75,7 @@ fn update_plan<H: Children, S: Sink>(
 }
 
 /// Writes the lines of ECHO, and updates the plan.
-fn run_plan<H: Children, S: Sink>(
+pub(crate) fn run_plan<H: Children, S: Sink>(
     alloc: Global,
     echoes: &[Text],
     plan: &Plan,

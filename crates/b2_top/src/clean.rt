@@ -3,7 +3,7 @@ ghost use Rattle.std.specs.Prelude.{◌≡◌, None, ℕ};
 ghost use Rattle.b2_host.specs.OutsideLaws.{Keeps};
 ghost use Rattle.b2_host.specs.OutputLaws.{OutKeeps};
 ghost use Rattle.b2_plan.specs.Plans.{Apart};
-ghost use Rattle.b2_refusals.specs.Wholes.{IsWhole};
+ghost use Rattle.b2_top.specs.Askings.{IsProjectRefusal};
 ghost use Rattle.b2_update.specs.Moments.{moment};
 ghost use Rattle.b2_top.specs.Endings.{IsUsageOrCutShort, IfRefused};
 ghost use Rattle.b2_top.specs.Asked.{clean_words};
@@ -129,7 +129,7 @@ pub fn clean_b2<H: Files, S: Sink>(
     // With Ok the words and the files come to a plan, and a refusal is what they come to. That is told of every sink.
     ensures cause { CauseTold words.now (H.outside host.old) result }
     // No fault of the host and no out of memory is within a refusal.
-    ensures whole { IfRefused IsWhole result }
+    ensures whole { IfRefused IsProjectRefusal result }
     // Cleaning has no list of failures, and no refusal but those of the load, the request and generation.
     ensures not_failed { IsOfLook result }
     // Where the words, the load, the request and generation come to a plan, the answer is Ok, or the call was cut short, or a pattern

@@ -6,7 +6,7 @@ ghost use Rattle.b2_plan.specs.Plans.{Apart};
 ghost use Rattle.b2_explain.specs.Faults.{ExplainCounts};
 ghost use Rattle.b2_explain.specs.Lines.{why_line, why_lines};
 ghost use Rattle.b2_explain.specs.Surveys.{IsStill};
-ghost use Rattle.b2_refusals.specs.Wholes.{IsWhole};
+ghost use Rattle.b2_top.specs.Askings.{IsProjectRefusal};
 ghost use Rattle.b2_update.specs.Moments.{moment};
 ghost use Rattle.b2_top.specs.Endings.{IsUsageOrCutShort, IfRefused};
 ghost use Rattle.b2_top.specs.Asked.{explain_command};
@@ -224,7 +224,7 @@ pub fn explain_b2<H: Files, S: Sink>(
     // That is told of every sink.
     ensures cause { CauseTold words.now (H.outside host.old) result }
     // No fault of the host and no out of memory is within a refusal.
-    ensures whole { IfRefused IsWhole result }
+    ensures whole { IfRefused IsProjectRefusal result }
     // An explanation has no list of failures, and no refusal but those of the load, the request, generation, and of a file that is
     // too big to be scanned, which a needed step reads.
     ensures not_failed { IsOfExplain result }

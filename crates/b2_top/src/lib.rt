@@ -4,7 +4,7 @@
 //!
 //! # What is proved
 //!
-//! - `run_b2`, `show_b2`, `explain_b2` and `clean_b2` keep what docs/PROMISES.md promises of them.
+//! - `run_b2`, `run_jam`, `show_b2`, `explain_b2` and `clean_b2` keep what docs/PROMISES.md promises of them.
 //! - The status of each answer is exact.
 #![tactic(auto)]
 
@@ -14,6 +14,8 @@ mod build;
 mod build_command;
 pub mod clean;
 pub mod explain;
+pub mod jam;
+mod jam_command;
 pub mod laws;
 pub mod lines;
 mod look;

@@ -1,7 +1,7 @@
 //! What the program is called for.
 ghost use Rattle.std.specs.Prelude.{◌≡◌};
 ghost use Rattle.b2_base.specs.Bytes.{HasNoZero};
-ghost use Rattle.b2_top.specs.Modes.{is_drill, mode_named, mode_asked, mode_of};
+ghost use Rattle.b2_top.specs.Modes.{is_file, is_drill, mode_named, mode_asked, mode_of};
 
 use b2_base::text::Text;
 use b2_command_line::lead::after_lead;
@@ -19,6 +19,14 @@ pub enum Mode {
     Clean,
     /// To run the updates of a generated project in memory.
     Drill,
+    /// To build targets of a Jam file.
+    Jam,
+}
+
+fn is_file(word: &str) -> bool
+    ensures { result ≡ is_file word.now }
+{
+    word == "-f"
 }
 
 fn is_drill(word: &str) -> bool
@@ -60,7 +68,7 @@ fn mode_asked(words: &[Text]) -> Option<Mode>
     None
 }
 
-/// Drill where the first word begins with `--drill=`. Else Look, Explain or Clean by the first of the words `-n`, `--show`,
+/// Jam where the first word is `-f`, and Drill where it begins with `--drill=`. Else Look, Explain or Clean by the first of the words `-n`, `--show`,
 /// `--explain` and `--clean` before the first `--`, and Build where none of them stands there. Takes no memory.
 pub fn mode_of(words: &[Text]) -> Mode
     ensures { result ≡ mode_of words.now }
@@ -68,6 +76,9 @@ pub fn mode_of(words: &[Text]) -> Mode
     let [first, ..] = words else {
         return Mode::Build;
     };
+    if is_file(first.as_str()) {
+        return Mode::Jam;
+    }
     if is_drill(first.as_str()) {
         return Mode::Drill;
     }

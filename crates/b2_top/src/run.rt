@@ -3,7 +3,7 @@ ghost use Rattle.std.specs.Prelude.{◌≡◌, [], None};
 ghost use Rattle.b2_top.specs.Endings.{IsUsageOrCutShort, IfRefused};
 ghost use Rattle.b2_host.specs.OutsideLaws.{Keeps};
 ghost use Rattle.b2_host.specs.OutputLaws.{OutKeeps};
-ghost use Rattle.b2_refusals.specs.Wholes.{IsWhole};
+ghost use Rattle.b2_top.specs.Askings.{IsProjectRefusal};
 ghost use Rattle.b2_runs.specs.UpdateAnswers.{LeavesNone};
 ghost use Rattle.b2_update.specs.Moments.{moment};
 ghost use Rattle.b2_top.specs.Commands.{build_command};
@@ -91,7 +91,7 @@ pub fn run_b2<H: Children, S: Sink>(
     // started nothing and changed no file.
     ensures starts_none { StartsNone result (H.outside host.old) (H.outside host.new) }
     // No fault of the host and no out of memory is within a refusal.
-    ensures whole { IfRefused IsWhole result }
+    ensures whole { IfRefused IsProjectRefusal result }
     // Where there is a plan whose clean build is defined, no file of it is too big, and no child ends badly, the answer
     // is Ok. Or the call was cut short, or a pattern of the project's own text was refused though it reads as one.
     ensures complete { CompleteTold H.made words.now (H.outside host.old) (H.outside host.new) result }

@@ -3,7 +3,7 @@ ghost use Rattle.std.specs.Prelude.{◌≡◌, None};
 ghost use Rattle.b2_top.specs.Endings.{IsUsageOrCutShort, IfRefused};
 ghost use Rattle.b2_host.specs.OutsideLaws.{Keeps};
 ghost use Rattle.b2_host.specs.OutputLaws.{OutKeeps};
-ghost use Rattle.b2_refusals.specs.Wholes.{IsWhole};
+ghost use Rattle.b2_top.specs.Askings.{IsProjectRefusal};
 ghost use Rattle.b2_top.specs.Looks.{look_of};
 ghost use Rattle.b2_top.specs.Shows.{ShownTold, ReportTold, CountsTold, UsageTold, CauseTold, IsOfLook, CompleteTold};
 ghost use Rattle.b2_top.specs.Shows.{IsAnswered, Shows};
@@ -77,7 +77,7 @@ pub fn show_b2<H: Files, S: Sink>(
     // With Ok the words and the files come to a plan; a refusal is what they come to. That is told of every sink.
     ensures cause { CauseTold words.now (H.outside host.old) result }
     // No fault of the host and no out of memory is within a refusal.
-    ensures whole { IfRefused IsWhole result }
+    ensures whole { IfRefused IsProjectRefusal result }
     // A look has no list of failures, and no refusal but those of the load, the request and generation.
     ensures not_failed { IsOfLook result }
     // Where the words, the load, the request and generation come to a plan, the answer is Ok, or the call was cut short, or a pattern

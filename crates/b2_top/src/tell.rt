@@ -6,7 +6,8 @@ ghost use Rattle.b2_refusals.specs.Lines.{usage_line};
 ghost use Rattle.b2_refusals.specs.Wholes.{IsWhole};
 ghost use Rattle.b2_top.specs.RefusalCauses.{fault_of};
 ghost use Rattle.b2_top.specs.Reports.{refusal_report, fault_report};
-ghost use Rattle.b2_top.specs.Writing.{unwritten, Says, SaysFault, AnswersStop};
+ghost use Rattle.b2_top.specs.Writing.{unwritten, Says, SaysFault, AnswersStop, AnswersJam};
+ghost use Rattle.jam_graph.specs.Loading.{IsWhole as IsWholeJam};
 
 use crate::answer::Answer;
 use crate::lines::{write_host_fault, write_refusal, write_text};
@@ -17,6 +18,7 @@ use b2_plan::step::Step;
 use b2_prepare::refusal::{PlanRefusal, PlanStop};
 use b2_refusals::fault::Fault;
 use b2_refusals::lines::usage_line;
+use jam_graph::fault::JamFault;
 use std::alloc::Global;
 
 /// The answer where a line could not be written.
@@ -92,5 +94,22 @@ pub fn tell_stop<S: Sink>(alloc: Global, echoes: &[Text], stop: PlanStop, out: &
         PlanStop::Refused(refusal) => tell_refusal(alloc, echoes, &[], fault_of(refusal), out),
         PlanStop::HostInLoad | PlanStop::HostInGeneration => tell_host_fault(alloc, echoes, out),
         PlanStop::OutOfMemory => Answer::OutOfMemory,
+    }
+}
+
+/// Tells why there is no plan of targets in a Jam file.
+pub fn tell_jam_fault<S: Sink>(
+    alloc: Global,
+    echoes: &[Text],
+    fault: JamFault,
+    out: &mut S,
+) -> Answer
+    requires { IsWholeJam fault }
+    ensures { AnswersJam echoes.now fault (S.output out.old) (S.output out.new) result }
+{
+    match fault {
+        JamFault::Host => tell_host_fault(alloc, echoes, out),
+        JamFault::OutOfMemory => Answer::OutOfMemory,
+        other => tell_refusal(alloc, echoes, &[], Fault::Jam(other), out),
     }
 }

@@ -12,6 +12,7 @@ use b2_base::text::Text;
 use b2_memory::memory::CallKind;
 use b2_top::clean::clean_b2;
 use b2_top::explain::explain_b2;
+use b2_top::jam::run_jam;
 use b2_top::mode::{Mode, mode_of};
 use b2_top::run::run_b2;
 use b2_top::show::show_b2;
@@ -76,6 +77,7 @@ fn mode_shown(alloc: Global, words: &[Text]) -> Result<Answer, CaseFault> {
         Mode::Explain => "Explain",
         Mode::Clean => "Clean",
         Mode::Drill => "Drill",
+        Mode::Jam => "Jam",
     };
     Answer::line(alloc, mode)
 }
@@ -251,6 +253,21 @@ fn build(
     end_shown(alloc, &ended, out.bytes())
 }
 
+/// A build of a Jam file with these words.
+fn jam_build(
+    alloc: Global,
+    words: &[Text],
+    host: &mut CaseHost,
+    failing: &mut FailingWrite,
+) -> Result<Answer, CaseFault> {
+    if !host.is_idle() {
+        return child_left(alloc);
+    }
+    let mut out = take_sink(alloc, failing);
+    let ended = ManuallyDrop::new(run_jam(alloc, words, host, &mut out));
+    end_shown(alloc, &ended, out.bytes())
+}
+
 /// An explanation with these words.
 fn explanation(
     alloc: Global,
@@ -348,6 +365,12 @@ impl Session for InMemory {
         match command.name() {
             "new_host" => self.renew(alloc),
             "run_b2" => build(
+                alloc,
+                texts(alloc, words)?.as_slice(),
+                &mut self.host,
+                &mut self.failing,
+            ),
+            "run_jam" => jam_build(
                 alloc,
                 texts(alloc, words)?.as_slice(),
                 &mut self.host,

@@ -34,3 +34,9 @@ returns-in-Drill g c =
     let before = moment host (g.S.Sink.output c.args.out.now) in
     let after = moment host (g.S.Sink.output c.drill.new.out) in
     subst (λ (m : Mode). Promises m g.H.Children.made c.args.words.now before after c.drill.result) (sym c.in-Drill.is ∙ c.mode_of.ensures) (c.drill.ensures host)
+
+pub returns-in-Jam : goal.returns-in-Jam
+returns-in-Jam g c =
+    let before = moment (g.H.Files.outside c.args.host.now) (g.S.Sink.output c.args.out.now) in
+    let after = moment (g.H.Files.outside c.jam.new.host) (g.S.Sink.output c.jam.new.out) in
+    subst (λ (m : Mode). Promises m g.H.Children.made c.args.words.now before after c.jam.result) (sym c.in-Jam.is ∙ c.mode_of.ensures) c.jam.ensures

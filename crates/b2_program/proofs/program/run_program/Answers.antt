@@ -14,6 +14,12 @@ returns-clause-clean g c =
     let after = moment (g.H.Files.outside c.run.new.host) (g.S.Sink.output c.run.new.out) in
     cause_.clean_told g.H.Children.made c.args.words.now before after c.run.result c.run.ensures
 
+pub returns-clause-built : goal.returns-clause-built
+returns-clause-built g c =
+    let before = moment (g.H.Files.outside c.args.host.now) (g.S.Sink.output c.args.out.now) in
+    let after = moment (g.H.Files.outside c.run.new.host) (g.S.Sink.output c.run.new.out) in
+    cause_.built_told g.H.Children.made c.args.words.now before after c.run.result c.run.ensures
+
 pub returns-clause-shown : goal.returns-clause-shown
 returns-clause-shown g c =
     let before = moment (g.H.Files.outside c.args.host.now) (g.S.Sink.output c.args.out.now) in

@@ -1,4 +1,6 @@
 use Rattle.b2_update.specs.Moments.{moment}
+use Rattle.b2_top.specs.Askings.{build_of}
+use Rattle.b2_top.proofs.AskingsAreLawful.{build_is_lawful}
 use Rattle.b2_top.proofs.PromisesFollowFromCalls.{all_promised}
 use Rattle.b2_top.proofs.run.answer.Goals as goal
 
@@ -6,5 +8,5 @@ pub returns-clause-answered : goal.returns-clause-answered
 returns-clause-answered g c =
     let before = moment (g.H.Files.outside c.args.host.now) (g.S.Sink.output c.args.out.now) in
     let after = moment (g.H.Files.outside c.read_and_build.new.host) (g.S.Sink.output c.read_and_build.new.out) in
-    all_promised c.one_meaning.ensures g.H.Children.made c.args.words.now before after c.read_and_build.result c.read_and_build.ensures.calls c.read_and_build.ensures.keeps
+    all_promised (build_of c.args.words.now) (build_is_lawful c.one_meaning.ensures c.args.words.now) g.H.Children.made before after c.read_and_build.result c.read_and_build.ensures.calls c.read_and_build.ensures.keeps
     (g.met.H.Files.consistent c.args.host.now) (g.met.H.Files.consistent c.read_and_build.new.host)

@@ -1,0 +1,2 @@
+pub mod FileAndWordsMeanOneThing
+mod FileIsPrepared
