@@ -12,6 +12,7 @@ use Rattle.b2_runs.proofs.TrueThroughSession.{true_shown, so_shown, past_grows, 
 use Rattle.b2_drain.specs.Drains.{Made}
 use Rattle.b2_command_line.specs.Words.{Word}
 use Rattle.b2_prepare.specs.Laws.{OneMeaning}
+use Rattle.b2_top.specs.Askings.{build_of}
 use Rattle.b2_top.specs.Plans.{TellsApart, making_by}
 use Rattle.b2_sessions.specs.BuildCalls.{update_of}
 use Rattle.b2_session_laws.specs.Neighbours.{AreNeighbours, IsNextAtOnce, IsNextAfterStop}
@@ -23,7 +24,7 @@ use Rattle.b2_again_laws.specs.Laws.{AskAgain}
 one_disk : (a b : Disk) → Some a ≡ Some b → a ≡ b
 one_disk a b e = cc
 
-module _ (one_meaning : OneMeaning) (made : Made) (words again : List Word) (n : AreNeighbours made words again) (a : AskAgain made words again n) where
+module _ (one_meaning : OneMeaning) (made : Made) (words again : List Word) (n : AreNeighbours made (build_of words) (build_of again)) (a : AskAgain made words again n) where
   abbrev first_update : Update
   first_update = update_of made a.come.plan
 
@@ -48,7 +49,7 @@ module _ (one_meaning : OneMeaning) (made : Made) (words again : List Word) (n :
       (subst (λ (d : Disk). SourcesStay a.come.plan.planned.roots a.disk.now d.now) middle_is
       (subst (λ (d : Disk). SourcesStay a.come.plan.planned.roots d.now a.next.updated.old.now) old_is stay)) a.asks made [] []
 
-  pub at_once : IsNextAtOnce made words again n → IsOfSamePlan (update_of made a.come.plan) (update_of made a.next.plan)
+  pub at_once : IsNextAtOnce made (build_of words) (build_of again) n → IsOfSamePlan (update_of made a.come.plan) (update_of made a.next.plan)
   at_once still =
       let one : a.come.updated.new ≡ a.next.updated.old =
       one_disk _ _ (sym a.come.updated.shows_then ∙ sym (ap (λ (m : Moment). m.host.disk) still) ∙ a.next.updated.shows) in
@@ -56,7 +57,7 @@ module _ (one_meaning : OneMeaning) (made : Made) (words again : List Word) (n :
       by_stay (subst (λ (d : Disk). SourcesStay a.come.plan.planned.roots a.come.updated.old.now d.now) one
       (host_updates_leave_sources first_update a.come.ended (record n.before.host { reads = a.come.reads }) n.between.host a.come.updated uses distinct))
 
-  pub after_stop : IsNextAfterStop made words again n → IsOfSamePlan (update_of made a.come.plan) (update_of made a.next.plan)
+  pub after_stop : IsNextAfterStop made (build_of words) (build_of again) n → IsOfSamePlan (update_of made a.come.plan) (update_of made a.next.plan)
   after_stop stop =
       let r : IsReopened stop.events n.between n.reopened = stop.reopened in
       let one : r.new ≡ a.next.updated.old = one_disk _ _ (sym (shows_reopened stop.events n.between n.reopened r) ∙ a.next.updated.shows) in

@@ -15,6 +15,7 @@ use Rattle.b2_drain.specs.Drains.{Made}
 use Rattle.b2_command_line.specs.Words.{Word}
 use Rattle.b2_top.specs.declared.answer.Answer.TheVariants as answers
 use Rattle.b2_top.specs.declared.build_command.BuildCommand.{BuildCommand}
+use Rattle.b2_top.specs.Askings.{build_of}
 use Rattle.b2_top.specs.Commands.{build_command}
 use Rattle.b2_top.specs.Plans.{build_at}
 use Rattle.b2_sessions.specs.BuildCalls.{update_of, UpdateHasCome}
@@ -22,33 +23,33 @@ use Rattle.b2_session_laws.specs.Neighbours.{AreNeighbours, IsNextAtOnce, IsNext
 use Rattle.b2_source_laws.specs.NextPlans.{AsksAgain}
 
 -- In both an update came, over the files that stood before it. The second one asks for what the first one asked for.
-pub record AskAgain (made : Made) (words again : List Word) (n : AreNeighbours made words again) : Type 0 where
+pub record AskAgain (made : Made) (words again : List Word) (n : AreNeighbours made (build_of words) (build_of again)) : Type 0 where
   pub disk : Disk
   pub shows : n.before.host.disk ≡ Some disk
   pub middle : Disk
   pub shows_then : n.reopened.host.disk ≡ Some middle
-  pub come : UpdateHasCome made words n.given n.before.host n.between.host disk
-  pub next : UpdateHasCome made again n.answer n.reopened.host n.after.host middle
+  pub come : UpdateHasCome made (build_of words) n.given n.before.host n.between.host disk
+  pub next : UpdateHasCome made (build_of again) n.answer n.reopened.host n.after.host middle
   pub asks : AsksAgain come.plan.command next.plan.command
 
 -- they are updates of one plan
 abbrev pub NextAtOnceIsOfOnePlan : Type 0
-NextAtOnceIsOfOnePlan = (made : Made) (words again : List Word) (n : AreNeighbours made words again) (a : AskAgain made words again n)
-    → IsNextAtOnce made words again n → IsOfSamePlan (update_of made a.come.plan) (update_of made a.next.plan)
+NextAtOnceIsOfOnePlan = (made : Made) (words again : List Word) (n : AreNeighbours made (build_of words) (build_of again)) (a : AskAgain made words again n)
+    → IsNextAtOnce made (build_of words) (build_of again) n → IsOfSamePlan (update_of made a.come.plan) (update_of made a.next.plan)
 
 -- also where the first one was stopped
 abbrev pub NextAfterStopIsOfOnePlan : Type 0
-NextAfterStopIsOfOnePlan = (made : Made) (words again : List Word) (n : AreNeighbours made words again) (a : AskAgain made words again n)
-    → IsNextAfterStop made words again n → IsOfSamePlan (update_of made a.come.plan) (update_of made a.next.plan)
+NextAfterStopIsOfOnePlan = (made : Made) (words again : List Word) (n : AreNeighbours made (build_of words) (build_of again)) (a : AskAgain made words again n)
+    → IsNextAfterStop made (build_of words) (build_of again) n → IsOfSamePlan (update_of made a.come.plan) (update_of made a.next.plan)
 
 -- ---- what the second one starts
 
 -- In the first one an update came. The second one asks for what that one asked for, whatever comes of it. The log between them was within
 -- its limit.
-pub record IsAskedAgain (made : Made) (words again : List Word) (n : AreNeighbours made words again) : Type 0 where
+pub record IsAskedAgain (made : Made) (words again : List Word) (n : AreNeighbours made (build_of words) (build_of again)) : Type 0 where
   pub disk : Disk
   pub shows : n.before.host.disk ≡ Some disk
-  pub come : UpdateHasCome made words n.given n.before.host n.between.host disk
+  pub come : UpdateHasCome made (build_of words) n.given n.before.host n.between.host disk
   pub middle : Disk
   pub shows_then : n.reopened.host.disk ≡ Some middle
   pub command : BuildCommand
@@ -56,7 +57,7 @@ pub record IsAskedAgain (made : Made) (words again : List Word) (n : AreNeighbou
   pub asks : AsksAgain come.plan.command command
   pub fits : length (held_bytes (log_file middle.now)) ≤ log_limit
 
-module _ (made : Made) (words again : List Word) (n : AreNeighbours made words again) (a : IsAskedAgain made words again n) where
+module _ (made : Made) (words again : List Word) (n : AreNeighbours made (build_of words) (build_of again)) (a : IsAskedAgain made words again n) where
   -- the plan's build, from the files at entry
   abbrev pub first_build : Build
   first_build = build_at made a.come.plan.planned a.disk.now
@@ -75,15 +76,15 @@ module _ (made : Made) (words again : List Word) (n : AreNeighbours made words a
 
 -- after a call that answered Ok, one that asks for the same again, with no edit between them, starts nothing but what is made each time
 abbrev pub AgainStartsNone : Type 0
-AgainStartsNone = (made : Made) (words again : List Word) (n : AreNeighbours made words again) (a : IsAskedAgain made words again n)
-    → IsNextAtOnce made words again n → n.given ≡ answers.Ok → StartsNone made words again n a
+AgainStartsNone = (made : Made) (words again : List Word) (n : AreNeighbours made (build_of words) (build_of again)) (a : IsAskedAgain made words again n)
+    → IsNextAtOnce made (build_of words) (build_of again) n → n.given ≡ answers.Ok → StartsNone made words again n a
 
 -- whatever the first one answered, no finished work is lost
 abbrev pub AgainRepeatsNone : Type 0
-AgainRepeatsNone = (made : Made) (words again : List Word) (n : AreNeighbours made words again) (a : IsAskedAgain made words again n)
-    → IsNextAtOnce made words again n → RepeatsNone made words again n a
+AgainRepeatsNone = (made : Made) (words again : List Word) (n : AreNeighbours made (build_of words) (build_of again)) (a : IsAskedAgain made words again n)
+    → IsNextAtOnce made (build_of words) (build_of again) n → RepeatsNone made words again n a
 
 -- nor is it by a stop
 abbrev pub AfterStopRepeatsNone : Type 0
-AfterStopRepeatsNone = (made : Made) (words again : List Word) (n : AreNeighbours made words again) (a : IsAskedAgain made words again n)
-    → IsNextAfterStop made words again n → RepeatsNone made words again n a
+AfterStopRepeatsNone = (made : Made) (words again : List Word) (n : AreNeighbours made (build_of words) (build_of again)) (a : IsAskedAgain made words again n)
+    → IsNextAfterStop made (build_of words) (build_of again) n → RepeatsNone made words again n a

@@ -38,6 +38,7 @@ use Rattle.b2_source_laws.specs.NextPlans.{SourcesStay}
 use Rattle.b2_source_laws.proofs.SourcesStay.{host_updates_leave_sources}
 use Rattle.b2_refusals.specs.declared.fault.Fault.{Fault}
 use Rattle.b2_top.specs.Answered.{CountsTold, ShouldEndWell}
+use Rattle.b2_top.specs.Askings.{build_of}
 use Rattle.b2_top.specs.Commands.{build_command}
 use Rattle.b2_top.specs.Endings.{IsOrCutShort}
 use Rattle.b2_top.specs.Plans.{HasPlan, update_for, TellsApart, making_by}
@@ -136,7 +137,7 @@ refused_not fault (inr (inr (inl e))) = cc
 refused_not fault (inr (inr (inr e))) = cc
 
 module _ (drill_means : DrillMeans) (no_pattern : NoPatternIsRefused) (one_meaning : OneMeaning) (n : ℕ) (few : n ≤ 2000) (words : List Word) (answer : Answer) (before after : Moment)
-    (plain : words ≡ the_words) (came : IsCall made_of words answer before after) (calm : IsCalm before) (stands : Stands n n before) where
+    (plain : words ≡ the_words) (came : IsCall made_of (build_of words) answer before after) (calm : IsCalm before) (stands : Stands n n before) where
   abbrev disk : Disk
   disk = stands.disk
 
@@ -238,7 +239,7 @@ module _ (drill_means : DrillMeans) (no_pattern : NoPatternIsRefused) (one_meani
     true_log = subst (λ o. IfSome o (IsTrueOn (making_by made_of))) (sym later.1) true_then;
   }
 
-  module _ (come : UpdateHasCome made_of words answer before.host after.host disk) where
+  module _ (come : UpdateHasCome made_of (build_of words) answer before.host after.host disk) where
     abbrev u : Update
     u = update_of made_of come.plan
 
@@ -277,8 +278,8 @@ module _ (drill_means : DrillMeans) (no_pattern : NoPatternIsRefused) (one_meani
 
   pub stands_then : Stands n n after
   stands_then =
-      go (both_of (λ d l. StaysStill before.host after.host ⊎ UpdateHasCome made_of words answer before.host after.host d) before.host.disk after.host.disk disk later.0 came.has_done stands.shows later.1)
+      go (both_of (λ d l. StaysStill before.host after.host ⊎ UpdateHasCome made_of (build_of words) answer before.host after.host d) before.host.disk after.host.disk disk later.0 came.has_done stands.shows later.1)
     where
-      go : StaysStill before.host after.host ⊎ UpdateHasCome made_of words answer before.host after.host disk → Stands n n after
+      go : StaysStill before.host after.host ⊎ UpdateHasCome made_of (build_of words) answer before.host after.host disk → Stands n n after
       go (inl still) = record { disk = disk; shows = still.disk ∙ stands.shows; file = stands.file; sources = stands.sources }
       go (inr come) = stands_built come

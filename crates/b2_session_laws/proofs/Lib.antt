@@ -1,3 +1,4 @@
+pub mod PromisesMakeCalls
 pub mod NeighboursAreFound
 pub mod NothingStartsAgain
 pub mod StopsKeepRecords

@@ -8,33 +8,33 @@ use Rattle.b2_runs.proofs.FirstElementOrLater.{Contains_here, Contains_there}
 use Rattle.b2_runs.proofs.SessionEndsClean.{session_splits}
 use Rattle.b2_runs.proofs.TrueThroughSession.{so_before, past_grows_through_session, true_through_session}
 use Rattle.b2_drain.specs.Drains.{Made}
-use Rattle.b2_command_line.specs.Words.{Word}
 use Rattle.b2_top.specs.declared.answer.Answer.{Answer}
-use Rattle.b2_top.specs.Plans.{TellsApart, making_by}
-use Rattle.b2_sessions.specs.BuildCalls.{IsCall}
+use Rattle.b2_top.specs.Askings.{Asking}
+use Rattle.b2_top.specs.Plans.{making_by}
+use Rattle.b2_sessions.specs.BuildCalls.{TellsFor, IsCall}
 use Rattle.b2_sessions.proofs.CallsLeaveTrueLogs.{keeps_past, tells_less, calls_leave_true}
 use Rattle.b2_session_laws.specs.Neighbours.{UpdatesAreNeighbours, StopAndUpdateAreNeighbours}
 
 module _ (made : Made) where
-  grows : (words : List Word) (answer : Answer) (before after : Moment) → IsCall made words answer before after → PastGrows before after
-  grows words answer before after call = keeps_past before after call.keeps
+  grows : (asking : Asking) (answer : Answer) (before after : Moment) → IsCall made asking answer before after → PastGrows before after
+  grows asking answer before after call = keeps_past before after call.keeps
 
   -- the log is true where the rest of a session begins
-  true_between : (first middle last : Moment) (front rest : List (Happening (List Word))) (here later : List Answer) → IsSession (IsCall made) first front here middle → IsSession (IsCall made) middle rest later last
-      → ((asked : List Word) → IsAskedFor (front ++ rest) asked → HoldsOfPast (TellsApart asked) last) → IsTrueAt (making_by made) first → IsTrueAt (making_by made) middle
+  true_between : (first middle last : Moment) (front rest : List (Happening Asking)) (here later : List Answer) → IsSession (IsCall made) first front here middle → IsSession (IsCall made) middle rest later last
+      → ((asked : Asking) → IsAskedFor (front ++ rest) asked → HoldsOfPast (TellsFor asked) last) → IsTrueAt (making_by made) first → IsTrueAt (making_by made) middle
   true_between first middle last front rest here later earlier s tells t =
-      true_through_session (IsCall made) TellsApart (making_by made) (calls_leave_true made) first middle front here earlier
-      (λ asked c. so_before (TellsApart asked) middle last (tells_less asked) (past_grows_through_session (IsCall made) grows middle last rest later s) (tells asked (in_all asked c))) t
+      true_through_session (IsCall made) TellsFor (making_by made) (calls_leave_true made) first middle front here earlier
+      (λ asked c. so_before (TellsFor asked) middle last (tells_less asked) (past_grows_through_session (IsCall made) grows middle last rest later s) (tells asked (in_all asked c))) t
     where
-      in_all : (asked : List Word) → IsAskedFor front asked → IsAskedFor (front ++ rest) asked
+      in_all : (asked : Asking) → IsAskedFor front asked → IsAskedFor (front ++ rest) asked
       in_all asked (inl c) = inl (Contains-append_left front rest (update asked) c)
       in_all asked (inr c) = inr (Contains-append_left front rest (stop asked) c)
 
   -- digests tell contents apart before the rest of a session, where they do after it
-  tells_then : (middle last : Moment) (rest : List (Happening (List Word))) (later : List Answer) (words : List Word) → Happens (IsCall made) middle rest later last → HoldsOfPast (TellsApart words) last → HoldsOfPast (TellsApart words) middle
-  tells_then middle last rest later words s tells = so_before (TellsApart words) middle last (tells_less words) (past_grows_through_session (IsCall made) grows middle last rest later (middle, refl, s)) tells
+  tells_then : (middle last : Moment) (rest : List (Happening Asking)) (later : List Answer) (asking : Asking) → Happens (IsCall made) middle rest later last → HoldsOfPast (TellsFor asking) last → HoldsOfPast (TellsFor asking) middle
+  tells_then middle last rest later asking s tells = so_before (TellsFor asking) middle last (tells_less asking) (past_grows_through_session (IsCall made) grows middle last rest later (middle, refl, s)) tells
 
-  second_in : (front rest : List (Happening (List Word))) (one other : Happening (List Word)) → Contains (front ++ one ∷ other ∷ rest) other
+  second_in : (front rest : List (Happening Asking)) (one other : Happening Asking) → Contains (front ++ one ∷ other ∷ rest) other
   second_in front rest one other = Contains-append_right front (one ∷ other ∷ rest) other (Contains_there one other (other ∷ rest) (Contains_here other rest))
 
   -- the two answers stand first
@@ -45,9 +45,9 @@ module _ (made : Made) where
   but_risks x y z a b = b ∙ ap (λ (m : Moment). record m { host = record m.host { risks = z.host.risks } }) a
 
 pub updates_are_neighbours : UpdatesAreNeighbours
-updates_are_neighbours made first last front rest words again given s =
-    let (middle, here, later, e, earlier, calls) = session_splits (IsCall made) first last front (update words ∷ update again ∷ rest) given s.session in
-    let t = true_between made first middle last front (update words ∷ update again ∷ rest) here later earlier calls s.tells s.true_log in
+updates_are_neighbours made first last front rest asking again given s =
+    let (middle, here, later, e, earlier, calls) = session_splits (IsCall made) first last front (update asking ∷ update again ∷ rest) given s.session in
+    let t = true_between made first middle last front (update asking ∷ update again ∷ rest) here later earlier calls s.tells s.true_log in
     let (renewed, same, (between, h1, l1, e1, (one, is_one, call, idle), (after, h2, l2, e2, (two, is_two, next, idle_then), more))) = calls in (
       record {
         before = renewed;
@@ -59,7 +59,7 @@ updates_are_neighbours made first last front rest words again given s =
         came = call;
         again_came = next;
         true_log = subst (IsTrueAt (making_by made)) (sym same) t;
-        tells = tells_then made after last rest l2 again more (s.tells again (inl (second_in made front rest (update words) (update again))));
+        tells = tells_then made after last rest l2 again more (s.tells again (inl (second_in made front rest (update asking) (update again))));
       },
       record {
         middle = middle;
@@ -74,9 +74,9 @@ updates_are_neighbours made first last front rest words again given s =
     )
 
 pub stop_and_update_are_neighbours : StopAndUpdateAreNeighbours
-stop_and_update_are_neighbours made first last front rest words again given s =
-    let (middle, here, later, e, earlier, calls) = session_splits (IsCall made) first last front (stop words ∷ update again ∷ rest) given s.session in
-    let t = true_between made first middle last front (stop words ∷ update again ∷ rest) here later earlier calls s.tells s.true_log in
+stop_and_update_are_neighbours made first last front rest asking again given s =
+    let (middle, here, later, e, earlier, calls) = session_splits (IsCall made) first last front (stop asking ∷ update again ∷ rest) given s.session in
+    let t = true_between made first middle last front (stop asking ∷ update again ∷ rest) here later earlier calls s.tells s.true_log in
     let (renewed, same, (reopened, h1, l1, e1, (one, is_one, stopped), (after, h2, l2, e2, (two, is_two, next, idle_then), more))) = calls in
     let true_renewed : IsTrueAt (making_by made) renewed = subst (IsTrueAt (making_by made)) (sym same) t in (
       record {
@@ -89,7 +89,7 @@ stop_and_update_are_neighbours made first last front rest words again given s =
         came = stopped.updated;
         again_came = next;
         true_log = subst (IsTrueAt (making_by made)) (sym stopped.fuse) true_renewed;
-        tells = tells_then made after last rest l2 again more (s.tells again (inl (second_in made front rest (stop words) (update again))));
+        tells = tells_then made after last rest l2 again more (s.tells again (inl (second_in made front rest (stop asking) (update again))));
       },
       record {
         middle = middle;

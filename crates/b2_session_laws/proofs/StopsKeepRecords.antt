@@ -1,7 +1,7 @@
 -- What was done well before the last start of a call that was stopped is on record once the host was opened again.
-use Rattle.std.proofs.Common.{◌≡◌, ◌⊎◌, ℕ, ◌≤◌, Bool, true, List, [], ◌∷◌, ◌++◌, length, Option, Some, None, Result, Ok, inl, inr, sym, ap, subst, ◌∙◌, append_assoc, append-nil}
+use Rattle.std.proofs.Common.{◌≡◌, ◌⊎◌, ℕ, ◌≤◌, Bool, true, List, [], ◌∷◌, ◌++◌, length, Option, Some, None, inl, inr, sym, ap, subst, ◌∙◌, append_assoc, append-nil}
 use Rattle.b2_prepare.specs.Laws.{OneMeaning}
-use Rattle.b2_prepare.specs.Meaning.{Refusal, Means}
+use Rattle.jam_prepare.specs.Laws.{OneMeaning as OneJamMeaning}
 use Rattle.b2_generate.specs.Planning.{Planned}
 use Rattle.b2_host.specs.ChildProcesses.{BothTold, ChangesOnlyOutputs}
 use Rattle.b2_host.specs.Disks.{Folder, Disk, bytes_at}
@@ -27,12 +27,13 @@ use Rattle.b2_runs.proofs.RecordIsTrue.{distinguishes_less}
 use Rattle.b2_runs.proofs.StopLeavesNone.{noted_through_work}
 use Rattle.b2_runs.proofs.TrueThroughSession.{shown_is_one, shows_reopened, past_grows}
 use Rattle.b2_drain.specs.Drains.{Made}
-use Rattle.b2_command_line.specs.Words.{Word}
 use Rattle.b2_top.specs.Answered.{AreKept}
-use Rattle.b2_top.specs.Plans.{HasPlan, options_of, update_at, update_for, MeetsPremises}
+use Rattle.b2_top.specs.Askings.{Asking, ComesTo, ComesToOne}
+use Rattle.b2_top.specs.Plans.{HasPlanFor, options_of, update_at, update_for, MeetsPremises}
 use Rattle.b2_top.specs.BetweenMoments.{StaysStill}
 use Rattle.b2_top.specs.declared.answer.Answer.{Answer}
 use Rattle.b2_top.specs.declared.build_command.BuildCommand.{BuildCommand}
+use Rattle.b2_top.proofs.AskingsAreLawful.{source_is_one}
 use Rattle.b2_sessions.specs.BuildCalls.{update_of, UpdateHasCome, IsCall}
 use Rattle.b2_sessions.proofs.CallsLeaveTrueLogs.{seen_before}
 use Rattle.b2_session_laws.specs.Stops.{StopKeeps}
@@ -91,34 +92,32 @@ with_this now P out_of_memory log is all = all log is
 
 -- ---- plans
 
-module _ (law : OneMeaning) (made : Made) (words : List Word) (disk : Disk) where
-  one_command : (p q : HasPlan words disk) → p.command ≡ q.command
+module _ (made : Made) (asking : Asking) (law : ComesToOne asking.source) (disk : Disk) where
+  one_command : (p q : HasPlanFor asking disk) → p.command ≡ q.command
   one_command p q = let e : Some p.command ≡ Some q.command = sym p.asked ∙ q.asked in cc
 
-  one_plan : (p q : HasPlan words disk) → p.planned ≡ q.planned
+  one_plan : (p q : HasPlanFor asking disk) → p.planned ≡ q.planned
   one_plan p q =
-      let means = subst (λ (c : BuildCommand). Means disk None c.words p.echoes (Ok p.planned)) (one_command p q) p.means in
-      let one = law disk None q.command.words p.echoes q.echoes (Ok p.planned) (Ok q.planned) means q.means in
-      let e : ◌≡◌ {A = Result Planned Refusal} (Ok p.planned) (Ok q.planned) = one.1 in
-      cc
+      let means = subst (λ (c : BuildCommand). ComesTo asking.source disk c.words p.echoes p.planned) (one_command p q) p.means in
+      law disk q.command.words p.echoes q.echoes p.planned q.planned means q.means
 
   abbrev at : BuildCommand → Planned → List LogLine → Update
   at command planned log = update_at made (options_of command.options) planned disk.now log
 
-  -- words and files come to one update
-  one_update : (p q : HasPlan words disk) (log : List LogLine) → update_for made p log ≡ update_for made q log
+  -- what is asked for and the files come to one update
+  one_update : (p q : HasPlanFor asking disk) (log : List LogLine) → update_for made p log ≡ update_for made q log
   one_update p q log = ap (λ (c : BuildCommand). at c p.planned log) (one_command p q) ∙ ap (λ (planned : Planned). at q.command planned log) (one_plan p q)
 
 -- ---- a stop
 
-module _ (law : OneMeaning) (made : Made) (words : List Word) (answer : Answer) (before after : Moment) (s : IsStop (IsCall made) words answer before after) where
+module _ (made : Made) (asking : Asking) (law : ComesToOne asking.source) (answer : Answer) (before after : Moment) (s : IsStop (IsCall made) asking answer before after) where
   abbrev r : IsReopened s.events s.between after
   r = s.reopened
 
   -- what is kept between these disks
   abbrev Kept : Disk → Disk → Type 0
   Kept disk later =
-      (plan : HasPlan words disk) (first log : List LogLine) (events : List ChildEvent) → IsLogIn disk.now first → MeetsPremises (update_for made plan first) disk later → after.host.children.events ≡ before.host.children.events ++ events
+      (plan : HasPlanFor asking disk) (first log : List LogLine) (events : List ChildEvent) → IsLogIn disk.now first → MeetsPremises (update_for made plan first) disk later → after.host.children.events ≡ before.host.children.events ++ events
       → IsLogIn later.now log → length (held_bytes (log_file later.now)) ≤ log_limit → AreKept (update_for made plan first) events later.now log
 
   fused_events : s.fused.host.children.events ≡ before.host.children.events
@@ -136,7 +135,7 @@ module _ (law : OneMeaning) (made : Made) (words : List Word) (answer : Answer) 
       same_rest before.host.children.events s.events []
       (sym s.events_are ∙ ap (λ children. children.events) still.children ∙ fused_events ∙ sym (append-nil before.host.children.events))
 
-  module _ (disk : Disk) (shows : Shows s.fused disk) (come : UpdateHasCome made words answer s.fused.host s.between.host disk) (first log : List LogLine) (is_first : IsLogIn disk.now first)
+  module _ (disk : Disk) (shows : Shows s.fused disk) (come : UpdateHasCome made asking answer s.fused.host s.between.host disk) (first log : List LogLine) (is_first : IsLogIn disk.now first)
       (p : MeetsPremises (update_for made come.plan first) disk r.new) (is_log : IsLogIn r.new.now log) (fits : length (held_bytes (log_file r.new.now)) ≤ log_limit) where
     abbrev u : Update
     u = update_for made come.plan first
@@ -174,20 +173,20 @@ module _ (law : OneMeaning) (made : Made) (words : List Word) (answer : Answer) 
           | inr (b, noted) ↦ finished_is_recorded u b.front r.new.now log quit jobs i step members noted at_i (begun_holds_earlier u h.events front more k (Done i true) b (same ∙ cut) done) file closure
         ]
 
-  kept : (disk : Disk) → Shows s.fused disk → StaysStill s.fused.host s.between.host ⊎ UpdateHasCome made words answer s.fused.host s.between.host disk → Kept disk r.new
+  kept : (disk : Disk) → Shows s.fused disk → StaysStill s.fused.host s.between.host ⊎ UpdateHasCome made asking answer s.fused.host s.between.host disk → Kept disk r.new
   kept disk shows (inl still) plan first log events is_first p are is_log fits = λ quit jobs k i front rest step members split done at_i file closure.
       let (more, cut) = up_to_start s.events s.events r.ends front rest k r.open_ends (sym (all_events events are) ∙ split) in
       absurd (no_start front more k (sym (still_none still) ∙ cut))
   kept disk shows (inr come) plan first log events is_first p are is_log fits =
-      let one = one_update law made words disk come.plan plan first in
+      let one = one_update made asking law disk come.plan plan first in
       subst (λ (v : Update). AreKept v events r.new.now log) one
       (come_keeps disk shows come first log is_first (subst (λ (v : Update). MeetsPremises v disk r.new) (sym one) p) is_log fits events are)
 
   both_kept : BothTold Kept before.host.disk after.host.disk
   both_kept =
-      let (disk, shows, has_done) = seen_before (λ d later. StaysStill s.fused.host s.between.host ⊎ UpdateHasCome made words answer s.fused.host s.between.host d) s.fused.host.disk s.between.host.disk r.old r.shows s.updated.has_done in
+      let (disk, shows, has_done) = seen_before (λ d later. StaysStill s.fused.host s.between.host ⊎ UpdateHasCome made asking answer s.fused.host s.between.host d) s.fused.host.disk s.between.host.disk r.old r.shows s.updated.has_done in
       subst (λ (o : Option Disk). BothTold Kept o after.host.disk) (sym (sym (ap (λ (m : Moment). m.host.disk) s.fuse) ∙ shows))
       (subst (λ (o : Option Disk). BothTold Kept (Some disk) o) (sym (shows_reopened s.events s.between after r)) (kept disk shows has_done))
 
-pub stop_keeps : OneMeaning → StopKeeps
-stop_keeps law made words answer before after s = both_kept law made words answer before after s
+pub stop_keeps : OneMeaning → OneJamMeaning → StopKeeps
+stop_keeps law jam_law made asking answer before after s = both_kept made asking (source_is_one law jam_law asking.source) answer before after s

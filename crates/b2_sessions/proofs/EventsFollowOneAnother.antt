@@ -18,8 +18,8 @@ use Rattle.b2_memory.specs.Memories.{Memory, with_edit, renewed}
 use Rattle.b2_memory.specs.Results.{made_of}
 use Rattle.b2_memory.specs.declared.memory.MemoryHost.{MemoryHost}
 use Rattle.b2_runs.specs.Moments.{Moment}
-use Rattle.b2_command_line.specs.Words.{Word}
 use Rattle.b2_top.specs.declared.answer.Answer.{Answer}
+use Rattle.b2_top.specs.Askings.{Asking}
 use Rattle.b2_sessions.specs.declared.fault.SessionFault.{SessionFault}
 use Rattle.b2_sessions.specs.declared.fault.SessionFault.TheVariants as faults
 use Rattle.b2_sessions.specs.BuildCalls.{IsCall}
@@ -73,8 +73,8 @@ ran_none events first host given none same = record {
 }
 
 -- after a call no child runs, where no wait may fail
-pub ready_after : (words : List Word) (answer : Answer) (before after : Moment) → NoWaitMayFail before.host → IsCall made_of words answer before after → IsReady after.host
-ready_after words answer before after calm call = record {
+pub ready_after : (asking : Asking) (answer : Answer) (before after : Moment) → NoWaitMayFail before.host → IsCall made_of asking answer before after → IsReady after.host
+ready_after asking answer before after calm call = record {
   idle = elim call.none_left [
     | inl none ↦ none
     | inr left ↦ absurd (true≢false (sym left.0.may ∙ calm))

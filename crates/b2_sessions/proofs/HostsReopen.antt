@@ -16,6 +16,7 @@ use Rattle.b2_runs.specs.Sessions.{IsReopened, IsStop}
 use Rattle.b2_update.specs.Moments.{moment}
 use Rattle.b2_command_line.specs.Words.{Word}
 use Rattle.b2_top.specs.declared.answer.Answer.{Answer}
+use Rattle.b2_top.specs.Askings.{Asking, build_of}
 use Rattle.b2_sessions.specs.BuildCalls.{IsCall}
 use Rattle.b2_sessions.specs.Courses.{moment_of, IsReady}
 use Rattle.b2_sessions.specs.Scenes.{scene_of, fused, IsStopped}
@@ -54,10 +55,10 @@ same_but_risks before after risks out same =
     subst (λ (o : Outside). IsSameButRisks (moment before out) (moment o out)) (sym same) refl
 
 -- an update was stopped: the host was told of it, the call came, and the host was opened again
-pub is_stop : (words : List Word) (answer : Answer) (first warned : Outside) (between after : Memory) (risks : Risks) (out out_then : Output) (old new : Disk) → warned ≡ record first { risks = risks }
-    → IsCall made_of words answer (moment warned out) (moment between.outside out_then) → between.outside.disk ≡ Some old → after.outside.disk ≡ Some new → IsConsistent new → Reopens between after
-    → IsStop (IsCall made_of) words answer (moment first out) (moment after.outside out_then)
-is_stop words answer first warned between after risks out out_then old new same call shows shows_then consistent r =
+pub is_stop : (asking : Asking) (answer : Answer) (first warned : Outside) (between after : Memory) (risks : Risks) (out out_then : Output) (old new : Disk) → warned ≡ record first { risks = risks }
+    → IsCall made_of asking answer (moment warned out) (moment between.outside out_then) → between.outside.disk ≡ Some old → after.outside.disk ≡ Some new → IsConsistent new → Reopens between after
+    → IsStop (IsCall made_of) asking answer (moment first out) (moment after.outside out_then)
+is_stop asking answer first warned between after risks out out_then old new same call shows shows_then consistent r =
     let (steps, left) = call.answered.left_open in
     record {
       fused = moment warned out;
@@ -71,10 +72,10 @@ is_stop words answer first warned between after risks out out_then old new same 
 
 -- the host was told of it, the call came, and the host was opened again
 pub is_stopped : (words : List Word) (calls tear : ℕ) (answer : Answer) (first warned between last : MemoryHost) (out out_then : Output) → memory_of warned ≡ fused calls tear (memory_of first)
-    → IsCall made_of words answer (moment_of warned out) (moment_of between out_then) → Reopens (memory_of between) (memory_of last) → IsStopped words calls tear answer (scene_of first out) (scene_of last out_then)
+    → IsCall made_of (build_of words) answer (moment_of warned out) (moment_of between out_then) → Reopens (memory_of between) (memory_of last) → IsStopped words calls tear answer (scene_of first out) (scene_of last out_then)
 is_stopped words calls tear answer first warned between last out out_then same came reopened = record {
   between = between;
-  came = subst (λ (m : Memory). IsCall made_of words answer (moment m.outside out) (moment_of between out_then)) same came;
+  came = subst (λ (m : Memory). IsCall made_of (build_of words) answer (moment m.outside out) (moment_of between out_then)) same came;
   reopened = reopened;
 }
 

@@ -18,6 +18,7 @@ use Rattle.b2_memory.specs.Scripts.{no_risks, risks_of, risks_with_fuse, AreAmon
 use Rattle.b2_memory.specs.declared.memory.MemoryHost.{MemoryHost}
 use Rattle.b2_runs.specs.Sessions.{IsEdit, Comes, Happens}
 use Rattle.b2_top.specs.declared.answer.Answer.{Answer}
+use Rattle.b2_top.specs.Askings.{build_of}
 use Rattle.b2_sessions.specs.BuildCalls.{IsCall}
 use Rattle.b2_sessions.specs.Courses.{moment_of, IsSessionOf}
 use Rattle.b2_sessions.specs.Events.{happening_of, happenings, writes_log}
@@ -47,7 +48,7 @@ comes (events.Update words) host next out later given none (answer, one, call, i
 comes (events.Stop words calls tear) host next out later given none (answer, one, s) = (
   answer,
   one,
-  is_stop words answer (told_outside host) (fused calls tear (memory_of host)).outside (memory_of s.between) (memory_of next) (risks_with_fuse (told_outside host).risks) out later
+  is_stop (build_of words) answer (told_outside host) (fused calls tear (memory_of host)).outside (memory_of s.between) (memory_of next) (risks_with_fuse (told_outside host).risks) out later
       (told s.between.store) (told next.store) refl s.came refl refl (kept_disk (writes_told next.store) next.store.places next.store.placed) s.reopened,
 )
 

@@ -20,9 +20,10 @@ use Rattle.b2_runs.proofs.TrueThroughSession.{true_shown, so_shown, so_before, t
 use Rattle.b2_command_line.specs.Words.{Word}
 use Rattle.b2_top.specs.declared.answer.Answer.{Answer}
 use Rattle.b2_top.specs.declared.answer.Answer.TheVariants as answers
+use Rattle.b2_top.specs.Askings.{Asking, build_of}
 use Rattle.b2_top.specs.Builds.{HasBuilt}
-use Rattle.b2_top.specs.Plans.{TellsApart, making_by}
-use Rattle.b2_sessions.specs.BuildCalls.{update_of, IsCall}
+use Rattle.b2_top.specs.Plans.{making_by}
+use Rattle.b2_sessions.specs.BuildCalls.{update_of, TellsFor, IsCall}
 use Rattle.b2_sessions.specs.Courses.{IsSessionOf, LastIsClean, EndsClean}
 use Rattle.b2_sessions.specs.Events.{happening_of, happenings}
 use Rattle.b2_sessions.proofs.CallsLeaveTrueLogs.{keeps_past, tells_less, calls_leave_true}
@@ -44,7 +45,7 @@ pub record OkDid (words : List Word) (before last : Moment) : Type 0 where
   pub shows_then : Shows last later
   pub built : HasBuilt made_of words before.host last.host disk later all_went
 
-ok_did : (words : List Word) (before last : Moment) (later : Disk) → Shows last later → IsCall made_of words answers.Ok before last → OkDid words before last
+ok_did : (words : List Word) (before last : Moment) (later : Disk) → Shows last later → IsCall made_of (build_of words) answers.Ok before last → OkDid words before last
 ok_did words before last later shows call = go before.host.disk last.host.disk refl refl shows call.answered.happened
   where
     go : (x y : Option Disk) → before.host.disk ≡ x → last.host.disk ≡ y → y ≡ Some later → BothTold (λ disk then. HasBuilt made_of words before.host last.host disk then all_went) x y → OkDid words before last
@@ -54,12 +55,12 @@ ok_did words before last later shows call = go before.host.disk last.host.disk r
     go (Some x) (Some y) e f visible told = record { disk = x; shows = e; later = y; shows_then = f; built = told }
 
 -- after it each requested file is clean, where the log was true and digests tell contents apart that it judges by
-call_cleans : (words : List Word) (before last : Moment) → IsCall made_of words answers.Ok before last → OkDid words before last → HoldsOfPast (TellsApart words) last → IsTrueAt (making_by made_of) before → LastIsClean words last
+call_cleans : (words : List Word) (before last : Moment) → IsCall made_of (build_of words) answers.Ok before last → OkDid words before last → HoldsOfPast (TellsFor (build_of words)) last → IsTrueAt (making_by made_of) before → LastIsClean words last
 call_cleans words before last call did tells t =
     let plan = did.built.plan in
     let u = update_of made_of plan in
     let true_log = true_shown (making_by made_of) before did.disk did.shows t in
-    let tells_now = so_shown (TellsApart words) last did.later did.shows_then tells in
+    let tells_now = so_shown (TellsFor (build_of words)) last did.later did.shows_then tells in
     let serves = true_log_serves u did.disk true_log in
     let (log, is_log, updated) = did.built.updated in
     let h = updated (record { uses_true = record { records = serves.records; scans = serves.scans }; distinct = λ digest. tells_now plan.command plan.asked digest }) in
@@ -91,27 +92,27 @@ module _ {X : Type 0} where
   last_same (z ∷ xs) (w ∷ ys) x y e = last_same xs ys x y (let f : z ∷ (xs ++ x ∷ []) ≡ w ∷ (ys ++ y ∷ []) = e in cc)
 
 -- what was asked for before the last event
-asked_before : (front : List (Happening (List Word))) (last words : List Word) → IsAskedFor front words → IsAskedFor (front ++ update last ∷ []) words
-asked_before front last words (inl c) = inl (Contains-append_left front _ (update words) c)
-asked_before front last words (inr c) = inr (Contains-append_left front _ (stop words) c)
+asked_before : (front : List (Happening Asking)) (last asked : Asking) → IsAskedFor front asked → IsAskedFor (front ++ update last ∷ []) asked
+asked_before front last asked (inl c) = inl (Contains-append_left front _ (update asked) c)
+asked_before front last asked (inr c) = inr (Contains-append_left front _ (stop asked) c)
 
-ends_so : (front : List (Happening (List Word))) (words : List Word) (earlier given : List Answer) (first last : Moment) (later : Disk) → Shows last later → IsSession (IsCall made_of) first (front ++ update words ∷ []) given last → given ≡ earlier ++ answers.Ok ∷ []
-    → ((asked : List Word) → IsAskedFor (front ++ update words ∷ []) asked → HoldsOfPast (TellsApart asked) last) → IsTrueAt (making_by made_of) first → LastIsClean words last
+ends_so : (front : List (Happening Asking)) (words : List Word) (earlier given : List Answer) (first last : Moment) (later : Disk) → Shows last later → IsSession (IsCall made_of) first (front ++ update (build_of words) ∷ []) given last → given ≡ earlier ++ answers.Ok ∷ []
+    → ((asked : Asking) → IsAskedFor (front ++ update (build_of words) ∷ []) asked → HoldsOfPast (TellsFor asked) last) → IsTrueAt (making_by made_of) first → LastIsClean words last
 ends_so front words earlier given first last later shows s ends tells t =
-    let (middle, here, rest, e, before, (renewed, same, (next, mine, none, f, (answer, one, call, idle), (nil, last_is)))) = session_splits (IsCall made_of) first last front (update words ∷ []) given s in
+    let (middle, here, rest, e, before, (renewed, same, (next, mine, none, f, (answer, one, call, idle), (nil, last_is)))) = session_splits (IsCall made_of) first last front (update (build_of words) ∷ []) given s in
     let only : rest ≡ answer ∷ [] = f ∙ ap (λ (l : List Answer). mine ++ l) nil ∙ (ap (λ (l : List Answer). l ++ []) one) in
     let is_ok : answers.Ok ≡ answer = last_same earlier here answers.Ok answer (sym ends ∙ e ∙ ap (λ (l : List Answer). here ++ l) only) in
-    let came : IsCall made_of words answers.Ok renewed last = subst₂ (λ a m. IsCall made_of words a renewed m) (sym is_ok) (sym last_is) call in
-    let tells_then : (asked : List Word) → IsAskedFor front asked → HoldsOfPast (TellsApart asked) renewed =
-    λ asked c. so_before (TellsApart asked) renewed last (tells_less asked) (keeps_past renewed last came.keeps) (tells asked (asked_before front words asked c)) in
-    let tells_middle : (asked : List Word) → IsAskedFor front asked → HoldsOfPast (TellsApart asked) middle =
-    λ asked c. subst (λ o. IfSome o (λ (d : Disk). TellsApart asked d.past)) (ap (λ (m : Moment). m.host.disk) same) (tells_then asked c) in
-    let true_middle : IsTrueAt (making_by made_of) middle = true_through_session (IsCall made_of) TellsApart (making_by made_of) (calls_leave_true made_of) first middle front here before tells_middle t in
+    let came : IsCall made_of (build_of words) answers.Ok renewed last = subst₂ (λ a m. IsCall made_of (build_of words) a renewed m) (sym is_ok) (sym last_is) call in
+    let tells_then : (asked : Asking) → IsAskedFor front asked → HoldsOfPast (TellsFor asked) renewed =
+    λ asked c. so_before (TellsFor asked) renewed last (tells_less asked) (keeps_past renewed last came.keeps) (tells asked (asked_before front (build_of words) asked c)) in
+    let tells_middle : (asked : Asking) → IsAskedFor front asked → HoldsOfPast (TellsFor asked) middle =
+    λ asked c. subst (λ o. IfSome o (λ (d : Disk). TellsFor asked d.past)) (ap (λ (m : Moment). m.host.disk) same) (tells_then asked c) in
+    let true_middle : IsTrueAt (making_by made_of) middle = true_through_session (IsCall made_of) TellsFor (making_by made_of) (calls_leave_true made_of) first middle front here before tells_middle t in
     let true_then : IsTrueAt (making_by made_of) renewed = subst (IsTrueAt (making_by made_of)) (sym same) true_middle in
-    call_cleans words renewed last came (ok_did words renewed last later shows came) (tells words (inl (Contains-push front (update words)))) true_then
+    call_cleans words renewed last came (ok_did words renewed last later shows came) (tells (build_of words) (inl (Contains-push front (update (build_of words))))) true_then
 
 pub ends_clean : (all : List Event) (first last : Moment) (given : List Answer) (later : Disk) → Shows last later → IsSessionOf all first given last → EndsClean all given first last
 ends_clean all first last given later shows s front words earlier is ends tells t =
-    let split : happenings all ≡ happenings front ++ update words ∷ [] = ap happenings is ∙ map-append happening_of front (events.Update words ∷ []) in
-    ends_so (happenings front) words earlier given first last later shows (subst (λ (hs : List (Happening (List Word))). IsSession (IsCall made_of) first hs given last) split s) ends
-    (λ asked c. tells asked (subst (λ (hs : List (Happening (List Word))). IsAskedFor hs asked) (sym split) c)) t
+    let split : happenings all ≡ happenings front ++ update (build_of words) ∷ [] = ap happenings is ∙ map-append happening_of front (events.Update words ∷ []) in
+    ends_so (happenings front) words earlier given first last later shows (subst (λ (hs : List (Happening Asking)). IsSession (IsCall made_of) first hs given last) split s) ends
+    (λ asked c. tells asked (subst (λ (hs : List (Happening Asking)). IsAskedFor hs asked) (sym split) c)) t

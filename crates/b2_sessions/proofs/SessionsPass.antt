@@ -16,12 +16,12 @@ use Rattle.b2_memory.specs.declared.memory.MemoryHost.{MemoryHost}
 use Rattle.b2_runs.specs.Moments.{Moment}
 use Rattle.b2_runs.specs.Sessions.{Happening, Happening.edit, Happening.update, Happening.stop, Comes, Happens, IsSession, IsAskedFor}
 use Rattle.b2_runs.proofs.TrueThroughSession.{past_grows_through_session, true_through_session}
-use Rattle.b2_command_line.specs.Words.{Word}
 use Rattle.b2_top.specs.declared.answer.Answer.{Answer}
-use Rattle.b2_top.specs.Plans.{TellsApart, making_by}
+use Rattle.b2_top.specs.Askings.{Asking}
+use Rattle.b2_top.specs.Plans.{making_by}
 use Rattle.b2_sessions.specs.declared.fault.SessionFault.{SessionFault}
 use Rattle.b2_sessions.specs.declared.fault.SessionFault.TheVariants as faults
-use Rattle.b2_sessions.specs.BuildCalls.{IsCall}
+use Rattle.b2_sessions.specs.BuildCalls.{TellsFor, IsCall}
 use Rattle.b2_sessions.specs.Courses.{moment_of, HasRun, IsSessionOf, HasPassed, TrueLogStays}
 use Rattle.b2_sessions.specs.Events.{happening_of, happenings, writes_log, gives_answer}
 use Rattle.b2_sessions.specs.Results.{RanWhole}
@@ -47,26 +47,26 @@ rise_then x y z a b = record {
   sink_faults = (let p = a.sink_faults in let q = b.sink_faults in omega (arith, p, q));
 }
 
-by_call : (words : List Word) (answer : Answer) (before after : Moment) → IsCall made_of words answer before after → CountsRise before after
-by_call words answer before after call = record { faults = call.keeps.faults; failed_waits = call.keeps.waits; sink_faults = call.answered.out_keeps.faults }
+by_call : (asking : Asking) (answer : Answer) (before after : Moment) → IsCall made_of asking answer before after → CountsRise before after
+by_call asking answer before after call = record { faults = call.keeps.faults; failed_waits = call.keeps.waits; sink_faults = call.answered.out_keeps.faults }
 
 same_counts : (first last : Moment) → last ≡ first → CountsRise first last
 same_counts first last same = counts_stay first last (ap (λ (m : Moment). m.host.faults) same) (ap (λ (m : Moment). m.host.failed_waits) same) (ap (λ (m : Moment). m.out.faults) same)
 
-counts_through : (first last : Moment) (hs : List (Happening (List Word))) (given : List Answer) → Happens (IsCall made_of) first hs given last → CountsRise first last
+counts_through : (first last : Moment) (hs : List (Happening Asking)) (given : List Answer) → Happens (IsCall made_of) first hs given last → CountsRise first last
 counts_through first last [] given (none, same) = same_counts first last same
 counts_through first last (edit path bytes ∷ hs) given (next, here, later, e, (none, is), rest) =
     rise_then first next last
     (counts_stay first next (ap (λ (m : Moment). m.host.faults) is.same) (ap (λ (m : Moment). m.host.failed_waits) is.same) (ap (λ (m : Moment). m.out.faults) is.same))
     (counts_through next last hs later rest)
-counts_through first last (update words ∷ hs) given (next, here, later, e, (answer, one, call, idle), rest) =
-    rise_then first next last (by_call words answer first next call) (counts_through next last hs later rest)
-counts_through first last (stop words ∷ hs) given (next, here, later, e, (answer, one, s), rest) =
+counts_through first last (update asking ∷ hs) given (next, here, later, e, (answer, one, call, idle), rest) =
+    rise_then first next last (by_call asking answer first next call) (counts_through next last hs later rest)
+counts_through first last (stop asking ∷ hs) given (next, here, later, e, (answer, one, s), rest) =
     let before = counts_stay first s.fused (ap (λ (m : Moment). m.host.faults) s.fuse) (ap (λ (m : Moment). m.host.failed_waits) s.fuse) (ap (λ (m : Moment). m.out.faults) s.fuse) in
     let after = counts_stay s.between next (ap (λ (m : Moment). m.host.faults) s.reopened.same) (ap (λ (m : Moment). m.host.failed_waits) s.reopened.same) (ap (λ (m : Moment). m.out.faults) s.reopened.same) in
-    rise_then first next last (rise_then first s.between next (rise_then first s.fused s.between before (by_call words answer s.fused s.between s.updated)) after) (counts_through next last hs later rest)
+    rise_then first next last (rise_then first s.between next (rise_then first s.fused s.between before (by_call asking answer s.fused s.between s.updated)) after) (counts_through next last hs later rest)
 
-session_counts : (first last : Moment) (hs : List (Happening (List Word))) (given : List Answer) → IsSession (IsCall made_of) first hs given last → CountsRise first last
+session_counts : (first last : Moment) (hs : List (Happening Asking)) (given : List Answer) → IsSession (IsCall made_of) first hs given last → CountsRise first last
 session_counts first last hs given (renewed, same, s) =
     rise_then first renewed last
     (counts_stay first renewed (ap (λ (m : Moment). m.host.faults) same) (ap (λ (m : Moment). m.host.failed_waits) same) (ap (λ (m : Moment). m.out.faults) same))
@@ -78,33 +78,33 @@ has_passed : (list : List Event) (first : Moment) (given : List Answer) (last : 
 has_passed list first given last session =
     let counts = session_counts first last (happenings list) given session in
     record {
-      grows = past_grows_through_session (IsCall made_of) (λ words answer before after call. keeps_past before after call.keeps) first last (happenings list) given session;
+      grows = past_grows_through_session (IsCall made_of) (λ asking answer before after call. keeps_past before after call.keeps) first last (happenings list) given session;
       faults = counts.faults;
       failed_waits = counts.failed_waits;
       sink_faults = counts.sink_faults;
     }
 
 -- what is asked for by the first events is asked for by all
-asked_by_all : (events : List Event) (count : ℕ) (words : List Word) → IsAskedFor (happenings (take count events)) words → IsAskedFor (happenings events) words
-asked_by_all events count words asked = subst (λ l. IsAskedFor l words) whole (go asked)
+asked_by_all : (events : List Event) (count : ℕ) (asking : Asking) → IsAskedFor (happenings (take count events)) asking → IsAskedFor (happenings events) asking
+asked_by_all events count asking asked = subst (λ l. IsAskedFor l asking) whole (go asked)
   where
-    front : List (Happening (List Word))
+    front : List (Happening Asking)
     front = happenings (take count events)
 
-    rest : List (Happening (List Word))
+    rest : List (Happening Asking)
     rest = happenings (drop count events)
 
     whole : front ++ rest ≡ happenings events
     whole = sym (map-append happening_of (take count events) (drop count events)) ∙ ap happenings (take-append-drop count events)
 
-    go : IsAskedFor front words → IsAskedFor (front ++ rest) words
-    go (inl c) = inl (Contains-append_left front rest (update words) c)
-    go (inr c) = inr (Contains-append_left front rest (stop words) c)
+    go : IsAskedFor front asking → IsAskedFor (front ++ rest) asking
+    go (inl c) = inl (Contains-append_left front rest (update asking) c)
+    go (inr c) = inr (Contains-append_left front rest (stop asking) c)
 
 true_stays : (events : List Event) (count : ℕ) (first : Moment) (given : List Answer) (last : Moment) → IsSessionOf (take count events) first given last → TrueLogStays events first last
 true_stays events count first given last session tells t =
-    true_through_session (IsCall made_of) TellsApart (making_by made_of) (calls_leave_true made_of) first last (happenings (take count events)) given session
-    (λ words asked. tells words (asked_by_all events count words asked)) t
+    true_through_session (IsCall made_of) TellsFor (making_by made_of) (calls_leave_true made_of) first last (happenings (take count events)) given session
+    (λ asking asked. tells asking (asked_by_all events count asking asked)) t
 
 -- whatever the result
 some_run : (events : List Event) (first last : Scene) (r : Result (Vec Answer Global) SessionFault) → RanWhole events first last r → (count : ℕ) × (given : List Answer) × HasRun events count first given last

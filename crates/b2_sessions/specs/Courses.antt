@@ -17,8 +17,9 @@ use Rattle.b2_runs.specs.Sessions.{IsTrueAt, HoldsOfPast, PastGrows, IsSession, 
 use Rattle.b2_command_line.specs.Words.{Word}
 use Rattle.b2_top.specs.declared.answer.Answer.{Answer}
 use Rattle.b2_top.specs.declared.answer.Answer.TheVariants as answers
-use Rattle.b2_top.specs.Plans.{HasPlan, TellsApart, making_by}
-use Rattle.b2_sessions.specs.BuildCalls.{IsCall, update_of}
+use Rattle.b2_top.specs.Askings.{Asking, build_of}
+use Rattle.b2_top.specs.Plans.{HasPlan, making_by}
+use Rattle.b2_sessions.specs.BuildCalls.{IsCall, TellsFor, update_of}
 use Rattle.b2_sessions.specs.Events.{happenings, writes_log}
 use Rattle.b2_sessions.specs.Scenes.{Scene, Did, WereRun}
 
@@ -69,7 +70,7 @@ pub record HasPassed (first last : Moment) : Type 0 where
 
 -- where an event judges by digests, they tell apart what stood by then
 abbrev pub DigestsTell : List Event → Moment → Type 0
-DigestsTell events last = (words : List Word) → IsAskedFor (happenings events) words → HoldsOfPast (TellsApart words) last
+DigestsTell events last = (asking : Asking) → IsAskedFor (happenings events) asking → HoldsOfPast (TellsFor asking) last
 
 -- a true log stays true, where digests tell contents apart that events judge by
 abbrev pub TrueLogStays : List Event → Moment → Moment → Type 0
@@ -79,7 +80,7 @@ TrueLogStays events first last = DigestsTell events last → IsTrueAt (making_by
 -- has the bytes of the clean build of the sources as they stand now.
 pub record LastIsClean (words : List Word) (last : Moment) : Type 0 where
   pub before : Moment
-  pub came : IsCall made_of words answers.Ok before last
+  pub came : IsCall made_of (build_of words) answers.Ok before last
   pub disk : Disk
   pub shows : Shows before disk
   pub plan : HasPlan words disk

@@ -5,15 +5,16 @@ use Rattle.b2_drill.specs.declared.event.Event.{Event}
 use Rattle.b2_drill.specs.declared.event.Event.TheVariants as events
 use Rattle.b2_host.specs.FileCalls.{log_path}
 use Rattle.b2_runs.specs.Sessions.{Happening, Happening.edit, Happening.update, Happening.stop}
-use Rattle.b2_command_line.specs.Words.{Word}
+use Rattle.b2_top.specs.Askings.{Asking, build_of}
 
--- What happens by an event. Where an update is stopped is no part of it: a stop may come anywhere.
-abbrev pub happening_of : Event → Happening (List Word)
+-- What happens by an event. An update and a stop ask for what their words are as a build. Where an update is stopped is no part of
+-- it: a stop may come anywhere.
+abbrev pub happening_of : Event → Happening Asking
 happening_of (events.Edit path bytes) = edit path bytes
-happening_of (events.Update words) = update words
-happening_of (events.Stop words calls tear) = stop words
+happening_of (events.Update words) = update (build_of words)
+happening_of (events.Stop words calls tear) = stop (build_of words)
 
-abbrev pub happenings : List Event → List (Happening (List Word))
+abbrev pub happenings : List Event → List (Happening Asking)
 happenings list = map happening_of list
 
 -- the event writes the log, which no edit of a session does; one that deletes it does not write it

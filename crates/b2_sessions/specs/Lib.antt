@@ -1,5 +1,5 @@
 -- What the files define.
--- `Calls`: what a call of the build command is to a session
+-- `BuildCalls`: what a call is to a session
 -- `Events`: what an event is to it
 -- `Scenes`: what each event does to all that a host in memory is
 -- `Courses`: how far a session has come, and what follows of it

@@ -10,6 +10,7 @@ use Rattle.b2_memory.specs.declared.memory.MemoryHost.{MemoryHost}
 use Rattle.b2_runs.specs.Moments.{Moment}
 use Rattle.b2_command_line.specs.Words.{Word}
 use Rattle.b2_top.specs.declared.answer.Answer.{Answer}
+use Rattle.b2_top.specs.Askings.{build_of}
 use Rattle.b2_sessions.specs.BuildCalls.{IsCall}
 
 -- All that a host in memory is, and a sink, at one moment.
@@ -36,13 +37,13 @@ fused calls tear memory = with_listed (with_tear tear) (told_fuse calls memory)
 -- the host was opened again.
 pub record IsStopped (words : List Word) (calls tear : ℕ) (answer : Answer) (before after : Scene) : Type 0 where
   pub between : MemoryHost
-  pub came : IsCall made_of words answer (seen (changed (fused calls tear) before)) (seen (scene_of between after.out))
+  pub came : IsCall made_of (build_of words) answer (seen (changed (fused calls tear) before)) (seen (scene_of between after.out))
   pub reopened : Reopens (memory_of between) after.memory
 
 -- what an event did, and the answers that it gave
 abbrev pub Did : Event → Scene → List Answer → Scene → Type 0
 Did (events.Edit path bytes) before given after = (given ≡ []) × (after ≡ changed (with_edit path bytes) before)
-Did (events.Update words) before given after = (answer : Answer) × (given ≡ answer ∷ []) × IsCall made_of words answer (seen before) (seen after) × (after.memory.outside.children.running ≡ [])
+Did (events.Update words) before given after = (answer : Answer) × (given ≡ answer ∷ []) × IsCall made_of (build_of words) answer (seen before) (seen after) × (after.memory.outside.children.running ≡ [])
 Did (events.Stop words calls tear) before given after = (answer : Answer) × (given ≡ answer ∷ []) × IsStopped words calls tear answer before after
 
 -- these events were run one after another, with these answers

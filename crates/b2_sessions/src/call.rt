@@ -1,6 +1,7 @@
 //! A call of the build command within a session.
 ghost use Rattle.std.specs.Prelude.{◌≡◌, []};
 ghost use Rattle.b2_update.specs.Moments.{moment};
+ghost use Rattle.b2_top.specs.Askings.{build_of};
 ghost use Rattle.b2_sessions.specs.BuildCalls.{IsCall};
 
 use b2_base::text::Text;
@@ -18,7 +19,7 @@ pub fn call<H: Children, S: Sink>(
     out: &mut S,
 ) -> Answer
     requires { (H.outside host.old).children.running ≡ [] }
-    ensures { IsCall H.made words.now result (moment (H.outside host.old) (S.output out.old))
+    ensures { IsCall H.made (build_of words.now) result (moment (H.outside host.old) (S.output out.old))
         (moment (H.outside host.new) (S.output out.new)) }
 {
     run_b2(alloc, words, host, out)

@@ -1,5 +1,6 @@
 use Rattle.b2_update.specs.Moments.{moment}
-use Rattle.b2_sessions.proofs.CallsAreTold.{is_call}
+use Rattle.b2_top.specs.Askings.{build_of}
+use Rattle.b2_sessions.proofs.CallsAreTold.{build_has_few, is_call}
 use Rattle.b2_sessions.proofs.call.call.Goals as goal
 
 pub returns : goal.returns
@@ -7,7 +8,7 @@ returns g c =
     let before = moment (g.H.Files.outside c.args.host.now) (g.S.Sink.output c.args.out.now) in
     let after = moment (g.H.Files.outside c.run_b2.new.host) (g.S.Sink.output c.run_b2.new.out) in
     let told = c.run_b2.ensures in
-    is_call g.H.Children.made c.args.words.now c.run_b2.result before after c.requires (record {
+    is_call g.H.Children.made (build_of c.args.words.now) (build_has_few c.args.words.now) c.run_b2.result before after c.requires (record {
       clean = told.clean;
       happened = told.happened;
       counts = told.counts;
