@@ -2,13 +2,7 @@
 # Prints the seconds and the memory that commands of the transcript take on large and on hostile texts of the language, of at most
 # 1 MiB, and on large logs. What reading a command and printing it again takes is in them. It first builds crates/b2_transcript.
 set -eu
-top=$(cd "$(dirname "$0")/.." && pwd)
-work=$(mktemp -d)
-trap 'rm -rf "$work"' EXIT
-(cd "$top/crates/b2_transcript" && rt run </dev/null >/dev/null 2>&1) || true
-program=$top/crates/b2_transcript/out/b2_transcript
-[ -x "$program" ] || { echo "b2_transcript is not proved or not built" >&2; exit 1; }
-cd "$work"
+. "$(dirname "$0")/transcript.sh"
 
 # measured LABEL: runs the commands of the file `commands`
 measured() {

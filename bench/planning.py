@@ -1,7 +1,9 @@
-"""Run by planning.sh: writes projects into the present folder, plans them by `b2 -n`, and prints what that costs: planning.py PROGRAM [PART ..]
+"""Run by planning.sh: writes projects and Jam files into the present folder, plans them by `b2 -n` and `b2 -f F`, and prints what that costs:
+planning.py PROGRAM [PART ..]
 
 A count of instructions is that of callgrind for a whole run of the program, which loads the project, plans the request and prints the
-steps. The calls of malloc and of realloc are those that callgrind saw in the same run."""
+steps. With `-f` there is no `-n`: a group `none` is asked for, for which all steps of the file are made and none is run. The calls of malloc and
+of realloc are those that callgrind saw in the same run."""
 import os
 import re
 import shutil
@@ -11,7 +13,7 @@ import tempfile
 import time
 from dataclasses import dataclass
 
-PARTS = ("a", "b", "c", "d", "growth")
+PARTS = ("a", "b", "c", "d", "e", "growth")
 JOIN = "actions join { cat $(>) > $(<) }\n"
 BENCH = os.path.dirname(os.path.abspath(__file__))
 COUNTS = shutil.which("valgrind") is not None
@@ -144,14 +146,62 @@ def tell_loops(program):
     tell("(d) a loop without end", "turn", 1000000, cost([program, "-n"], ".", 2))
 
 
+def calls_of_make(count):
+    put("./Jamroot", JOIN + "".join(f"make t{n} : s{n} : @join ;\n" for n in range(count)))
+
+
+def names(count):
+    """The names of so many targets, in one list."""
+    return " ".join(f"t{n}" for n in range(count))
+
+
+def jam_acts(count):
+    acts = "".join(f"join t{n} : s{n} ;\n" for n in range(count))
+    put("./F", f"{JOIN}{acts}DEPENDS all : {names(count)} ;\nNOTFILE none ;\n")
+    return ["none"]
+
+
+def tell_acts(program):
+    count = 10000
+    os.mkdir("acts")
+    os.chdir("acts")
+    calls_of_make(count)
+    made = cost([program, "-n"], ".")
+    tell("(e) calls of make in one project", "step", count, made)
+    acted = cost([program, "-f", "F", *jam_acts(count)], ".")
+    tell("(e) acts of a Jam file", "step", count, acted)
+    print(f"(e) an act takes {acted.instructions / made.instructions:.2f} times the instructions of a call of make", flush=True)
+
+
+def jam_chain(count):
+    """Groups, each of which depends on the next one."""
+    put("./F", "".join(f"DEPENDS t{n} : t{n + 1} ;\n" for n in range(count - 1)) + f"NOTFILE {names(count)} ;\n")
+    return ["t0"]
+
+
+def jam_fan(count):
+    """Files that may be missing, in one DEPENDS. Each of them is looked for."""
+    put("./F", f"DEPENDS all : {names(count)} ;\nNOCARE {names(count)} ;\n")
+    return []
+
+
+def jam_acts_of_one(count):
+    put("./F", JOIN + "".join(f"join t : s{n} ;\n" for n in range(count)) + "NOTFILE none ;\n")
+    return ["none"]
+
+
+def jam_act_of_many(count):
+    put("./F", f"{JOIN}join {names(count)} : s ;\nNOTFILE none ;\n")
+    return ["none"]
+
+
 def chain(count):
     put("./Jamroot", "alias t0 : s ;\n" + "".join(f"alias t{n} : t{n - 1} ;\n" for n in range(1, count)))
     return [f"t{count - 1}"]
 
 
 def fan(count):
-    names = " ".join(f"t{n}" for n in range(count))
-    put("./Jamroot", f"alias base : s ;\nalias top : {names} ;\n" + "".join(f"alias t{n} : base ;\n" for n in range(count)))
+    put("./Jamroot", f"alias base : s ;\nalias top : {names(count)} ;\n" + "".join(f"alias t{n} : base ;\n" for n in range(count)))
     return ["top"]
 
 
@@ -203,6 +253,14 @@ SHAPES = (
     ("requirements with a condition", 500, conditions),
     ("projects", 500, many_projects),
 )
+# The same of Jam files.
+JAM_SHAPES = (
+    ("acts of a Jam file", 2500, jam_acts),
+    ("acts of one target", 2500, jam_acts_of_one),
+    ("targets of one act", 1250, jam_act_of_many),
+    ("targets in a chain of DEPENDS", 5000, jam_chain),
+    ("targets in one DEPENDS", 16384, jam_fan),
+)
 
 
 def seconds(command):
@@ -220,14 +278,14 @@ def measure(command):
     return cost(command, ".").instructions / 1000000 if COUNTS else seconds(command)
 
 
-def tell_shape(program, what, least, write):
-    """Prints what N, 2N and 4N of a thing take, and in brackets how many times the one before."""
+def tell_shape(command, what, least, write):
+    """Prints what N, 2N and 4N of a thing take for a command, and in brackets how many times the one before."""
     told, before = [], 0
     for count in (least, 2 * least, 4 * least):
         with tempfile.TemporaryDirectory(dir=".") as folder:
             home = os.getcwd()
             os.chdir(folder)
-            taken = measure([program, "-n", *write(count)])
+            taken = measure([*command, *write(count)])
             os.chdir(home)
         told.append(f"{count:,}: {taken:,.2f}" + (f" ({taken / before:.2f})" if before else ""))
         before = taken
@@ -236,10 +294,12 @@ def tell_shape(program, what, least, write):
 
 def tell_growth(program):
     for what, least, write in SHAPES:
-        tell_shape(program, what, least, write)
+        tell_shape([program, "-n"], what, least, write)
+    for what, least, write in JAM_SHAPES:
+        tell_shape([program, "-f", "F"], what, least, write)
 
 
-COUNTED = {"a": tell_tree, "b": tell_libraries, "c": tell_projects, "d": tell_loops}
+COUNTED = {"a": tell_tree, "b": tell_libraries, "c": tell_projects, "d": tell_loops, "e": tell_acts}
 
 
 def main(program, parts):

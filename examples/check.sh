@@ -406,6 +406,8 @@ if command -v g++ > /dev/null; then
     shows docs/FROM-B2.md
     project tests
     shows docs/TESTING.md
+    project jam
+    shows docs/JAM.md
     . "$top/examples/cpp-check.sh"
 else
     echo "There is no g++ here: no C++ project was built."

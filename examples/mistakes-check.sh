@@ -38,16 +38,20 @@ refuses() {
 
 empty words
 echo 'ECHO loaded ;' > Jamroot
-usage='b2: usage: b2 [-jN] [-a] [-q] [--by=digest] [-n, --show, --explain or --clean] [word ..], or b2 --drill=N'
+usage='b2: usage: b2 [-jN] [-a] [-q] [--by=digest] [-n, --show, --explain or --clean] [word ..], or b2 -f FILE [target ..], or b2 --drill=N'
 for words in -h --help --version -x -d2 -sX=1 -an -a=x '-a -a' -aa '-q -a -q' -j -j= -j0 -j65 -j04 -jx '-j -a' '-j --' '-j1 -j2' \
     --by --by= --by=time --by=digest=1 '--by=digest --by=digest' '--by=digest --by digest' '-n --show' '-n -n' '-n -j0' '--show -z' \
     '-n --explain' '--explain --show' '--explain --clean' '--clean -n' '--explain --explain' '--clean --clean' --explain=x --clean= \
     '--explain --by=digest' '--by digest --explain' '--explain -a -a' '--clean -z' \
+    -f -fF '-f F -n' '-f F --show' '-f F --explain' '-f F --clean' '-f F --drill=4' '-f F -j0' '-f F -a -a' '-f F --by=time' '-a -f F' \
     --drill= --drill=0 --drill=04 --drill=2001 --drill=x '--drill=4 draw'; do
     runs 3 $words <<E1
 $usage
 E1
 done
+runs 3 -f "" <<E1
+$usage
+E1
 runs 3 "$(printf '\377')" < /dev/null
 leaves Jamroot
 
@@ -145,6 +149,82 @@ refuses 'location outside: /usr/local/bin/draw' 'using gcc ;
 exe draw : main.cpp ;
 install copies : draw : <location>/usr/local/bin ;'
 refuses 'no Jamfile in lib' 'build-project lib ;'
+
+# ---- Jam files and targets that cannot be
+
+# file_refuses TEXT FILE TARGET ..: with this Jam file F and these targets a build ends with status 2 and the line `b2: TEXT`, and no
+# file is made
+file_refuses() {
+    refusal=$1 file=$2; shift 2
+    empty jam-mistake
+    printf '%s\n' "$file" > F
+    echo "b2: $refusal" > "$work/refusal"
+    runs 2 -f F "$@" < "$work/refusal"
+    leaves F
+}
+
+empty no-file
+echo 'b2: no file F' > "$work/refusal"
+runs 2 -f F < "$work/refusal"
+runs 2 -f ./F all < "$work/refusal"
+leaves '*'
+mkdir F
+runs 2 -f F < "$work/refusal"
+file_refuses 'F has 1048577 bytes' "$(head -c 1048576 /dev/zero | tr '\0' '#')"
+file_refuses 'F: byte 1 is not text' "$(printf 'x\377 ;')"
+file_refuses 'F:1: open quote' 'ECHO "draw ;'
+file_refuses 'F:1: open actions' 'actions join { cat'
+file_refuses 'F:1: syntax error at end of file' 'ECHO hello;'
+file_refuses 'F:1: syntax error at join' 'actions updated join { cat }'
+file_refuses 'F:1: unknown rule Main' 'Main draw : draw.c ;'
+file_refuses 'F:1: unknown rule exe' 'exe draw : draw.cpp ;'
+file_refuses 'F:1: unknown rule LEAVES' 'LEAVES draw ;'
+file_refuses 'F:1: wrong arguments for DEPENDS' 'DEPENDS : draw ;'
+file_refuses 'F:1: no file rules.jam' 'include rules.jam ;'
+file_refuses 'F:1: more than 1000000 turns' 'while a { }'
+file_refuses 'F:2: more than 256 levels' 'rule again ( )
+{ again ; }
+again ;'
+file_refuses 'F:1: no compiler' 'EXIT no compiler ;'
+file_refuses 'no target clean' 'DEPENDS all : draw ;' clean
+file_refuses '65537 steps' 'actions p { x }
+D = 0 1 2 3 4 5 6 7 8 9 ;
+for local a in $(D) { for local b in $(D) { for local c in $(D) { for local d in $(D) { for local e in $(D) { p $(a)$(b)$(c)$(d)$(e) ; } } } } }'
+file_refuses 'notfile and file in one action: c' 'actions p { x }
+p a b c ;
+NOTFILE c ;'
+file_refuses 'notfile and file in one action: all' 'actions p { x }
+p all draw ;'
+file_refuses 'F:3: bad index a' 'actions p { $(X[a]) }
+
+p draw ;'
+file_refuses 'location outside: lib/draw' 'actions p { x }
+LOCATE = lib ;
+p draw ;'
+file_refuses 'location outside: draw' 'actions p { x }
+p ../draw ;'
+file_refuses 'path clash: bin/draw' 'actions p { x }
+p draw ;
+p <g>draw ;'
+file_refuses 'path clash: bin/draw/part' 'actions p { x }
+p draw ;
+p draw/part ;'
+file_refuses 'path clash: bin/b2.log' 'actions p { x }
+p b2.log ;'
+
+empty jam-cycle
+printf '%s\n' 'actions copy { cp -T $(>) $(<) 2> /dev/null }' 'copy a : b ;' 'copy b : a ;' 'copy c : x ;' 'DEPENDS all : a c ;' > F
+runs 1 -f F c <<'E1'
+...missing x...
+...skipped bin/c...
+updated 0, failed 0, skipped 1, missing 1
+E1
+echo text > x
+runs 2 -f F <<'E1'
+copy bin/c
+b2: step cycle: bin/a -> bin/b -> bin/a
+E1
+holds bin/c < x
 
 # ---- a command that fails
 
@@ -489,6 +569,10 @@ for option in "" -n --show --explain --clean; do
     runs 4 $option < "$work/refusal"
 done
 chmod 644 Jamroot
+: > F
+chmod 0 F
+runs 4 -f F < "$work/refusal"
+rm -f F
 recovers 'copy bin/a' 'copy bin/sub/b'
 
 B2=$owners_b2
