@@ -1,5 +1,5 @@
 -- Texts in order of their bytes: what goes on from a text comes directly after it.
-use Rattle.std.proofs.Common.{◌≡◌, ◌≢◌, ℕ, true, false, List, [], ◌∷◌, ◌++◌, refl, ap, sym, ◌∙◌, subst, append-nil}
+use Rattle.std.proofs.Common.{◌≡◌, ◌≢◌, ℕ, false, List, [], ◌∷◌, ◌++◌, refl, ap, sym, ◌∙◌, subst, append-nil}
 use Rattle.std.specs.declared.cmp.Ordering.{Ordering}
 use Rattle.std.specs.declared.cmp.Ordering.TheVariants.{Less, Equal, Greater}
 use Rattle.std.specs.Ordering.{nat_cmp, ordering_then, ordering_reverse, is_gt, is_lt}
@@ -69,3 +69,14 @@ begins_before text other more differ = go more.0 more.1
     go : (rest : List ℕ) → other ≡ text ++ rest → cmp text other ≡ Less
     go [] e = absurd (differ (sym (e ∙ append-nil text)))
     go (x ∷ rest) e = ap (cmp text) e ∙ before_more text x rest
+
+-- a text that comes before another one differs from it, and the other one does not begin it
+never_before : (s : List ℕ) → cmp s s ≡ Less → ⊥
+never_before s e = let bad : Less ≡ Greater = sym e ∙ nat_list_cmp_total.antisymm s s ∙ ap ordering_reverse e in cc
+
+pub before_differs : (s t : List ℕ) → cmp s t ≡ Less → s ≢ t
+before_differs s t less same = never_before s (ap (cmp s) same ∙ less)
+
+pub later_begins_not : (s t : List ℕ) → cmp s t ≡ Less → IsFrontOf t s → ⊥
+later_begins_not s t less more =
+    true≢false (sym (ap is_gt (nat_list_cmp_total.antisymm t s ∙ ap ordering_reverse less)) ∙ ap (λ x. is_gt (cmp t x)) more.1 ∙ upto_more t more.0)

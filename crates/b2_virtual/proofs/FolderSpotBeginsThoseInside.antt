@@ -1,5 +1,5 @@
 -- A path is a folder or lies in it exactly where the folder's spot begins its own; and how a spot is written.
-use Rattle.std.proofs.Common.{◌≡◌, ◌≢◌, ℕ, Bool, true, false, cond, ◌||◌, ◌⊎◌, inl, inr, List, [], ◌∷◌, ◌++◌, codes, replicate, refl, ap, ap₂, sym, ◌∙◌, subst, length-append, append_assoc, append-nil, arith}
+use Rattle.std.proofs.Common.{◌≡◌, ◌≢◌, ℕ, Bool, true, false, cond, ◌||◌, ◌⊎◌, inl, inr, List, [], ◌∷◌, ◌++◌, codes, replicate, length, refl, ap, ap₂, sym, ◌∙◌, subst, length-append, append_assoc, append-nil, arith}
 use Rattle.std.specs.List.{AllByRecursion, join_with_byte}
 use Rattle.std.proofs.lemmas.Bool.{true≢false}
 use Rattle.b2_base.specs.Segments.{is_rooted, is_up, is_dropped, written}
@@ -167,12 +167,19 @@ lead_under p d nd u = go (parts d) refl (is_rooted d) refl
         ap₂ lead_of u.rooted (ap is_up (first_p [] e) ∙ u.not_above here ∙ sym (ap is_up (first_d [] e)))
     go (s ∷ ds) e false q = ap₂ lead_of u.rooted (ap is_up (first_p (s ∷ ds) e) ∙ sym (ap is_up (first_d (s ∷ ds) e)))
 
-pub spot_from_under : (p d : List ℕ) → IsNormal d → IsUnder p d → IsFrontOf (spot d) (spot p)
+spot_of_inner : (p d : List ℕ) → IsNormal d → (u : IsUnder p d) → spot p ≡ spot d ++ (u.next ++ 47 ∷ ended u.more)
 unfolding spot
-spot_from_under p d nd u =
+spot_of_inner p d nd u =
     let same : way p ≡ way d ++ u.next ∷ u.more =
     ap₂ ◌++◌ (lead_under p d nd u) u.goes_on ∙ sym (append_assoc (lead_of (is_rooted d) (is_up (first_part d))) (parts d) (u.next ∷ u.more)) in
-    (ended (u.next ∷ u.more), ap ended same ∙ ended-append (way d) (u.next ∷ u.more))
+    ap ended same ∙ ended-append (way d) (u.next ∷ u.more)
+
+pub spot_from_under : (p d : List ℕ) → IsNormal d → IsUnder p d → IsFrontOf (spot d) (spot p)
+spot_from_under p d nd u = (u.next ++ 47 ∷ ended u.more, spot_of_inner p d nd u)
+
+pub spot_differs : (p d : List ℕ) → IsNormal d → IsUnder p d → spot d ≢ spot p
+spot_differs p d nd u same =
+    omega (arith, ap length same, ap length (spot_of_inner p d nd u), length-append (spot d) (u.next ++ 47 ∷ ended u.more), length-append u.next (47 ∷ ended u.more))
 
 -- ---- how a spot is written
 

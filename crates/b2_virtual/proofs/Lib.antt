@@ -10,3 +10,5 @@ pub mod NearestKeysTellNesting
 pub mod FirstClashHasNoneBefore
 pub mod RepeatsAreLeftOut
 pub mod PlainPathsStayAsTheyAre
+pub mod OutermostSpotsCoverTheOthers
+pub mod NestedOutputsShowInSpots

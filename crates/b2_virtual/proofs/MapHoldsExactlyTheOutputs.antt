@@ -1,5 +1,5 @@
 -- A builder's map, empty and after each step, has just the spots of all outputs, and so tells equal steps and clashes.
-use Rattle.std.proofs.Common.{◌≡◌, ◌≢◌, ℕ, ◌+◌, ◌-◌, ◌<◌, ◌≤◌, Bool, true, false, cond, ◌||◌, ◌⊎◌, inl, inr, ⊎_elim, suc, zero, List, [], ◌∷◌, ◌++◌, map, length, length-append, Option, Some, None, slice_get, get_or, refl, ap, sym, ◌∙◌, subst, append-nil, arith}
+use Rattle.std.proofs.Common.{◌≡◌, ℕ, ◌-◌, ◌<◌, ◌≤◌, Bool, true, false, cond, ◌||◌, ◌⊎◌, inl, inr, ⊎_elim, suc, zero, List, [], ◌∷◌, ◌++◌, map, length, length-append, Option, Some, None, slice_get, get_or, refl, ap, sym, ◌∙◌, subst, append-nil, arith}
 use Rattle.std.specs.Prelude.{slice_index_or}
 use Rattle.std.specs.List.{Contains, list_any, AllByRecursion}
 use Rattle.std.specs.Str.{bytes_eq}
@@ -168,7 +168,7 @@ first_spot (o ∷ outs) spots first e h g = (o, (0, omega arith, refl), g ∙ ap
 -- ---- a further step
 
 -- which spots are those of some outputs
-any_spot : (outs : Paths) (key : List ℕ) → list_any (bytes_eq key) (map spot outs) ≡ true → (out : List ℕ) × Contains outs out × (key ≡ spot out)
+pub any_spot : (outs : Paths) (key : List ℕ) → list_any (bytes_eq key) (map spot outs) ≡ true → (out : List ℕ) × Contains outs out × (key ≡ spot out)
 any_spot [] key h = absurd (true≢false (sym h))
 any_spot (o ∷ outs) key h =
     elim (cases_Bool (bytes_eq key (spot o))) [
@@ -183,7 +183,7 @@ or_true : (a b : Bool) → b ≡ true → (a || b) ≡ true
 or_true true b h = refl
 or_true false b h = h
 
-spot_any : (outs : Paths) (out : List ℕ) → Contains outs out → list_any (bytes_eq (spot out)) (map spot outs) ≡ true
+pub spot_any : (outs : Paths) (out : List ℕ) → Contains outs out → list_any (bytes_eq (spot out)) (map spot outs) ≡ true
 spot_any outs out c = go outs c.0 c.1 c.2
   where
     go : (l : Paths) (k : ℕ) → k < length l → slice_index_or l k out ≡ out → list_any (bytes_eq (spot out)) (map spot l) ≡ true

@@ -8,11 +8,10 @@ use Rattle.std.specs.FinMap as map
 use Rattle.std.specs.BTreeMap as tree
 use Rattle.std.specs.BTreeMap.{BTreeMap}
 use Rattle.std.specs.BTreeMap.Range.{IsRangeOf, IsEntryInRange, IsLeBy}
-use Rattle.std.proofs.lemmas.Bool.{true≢false}
 use Rattle.b2_base.proofs.MapsHoldWhatEntriesHold.{get_text}
 use Rattle.b2_base.specs.Bytes.{IsFrontOf}
-use Rattle.b2_virtual.specs.Spots.{Numbers, GoesOn, ComesBefore, IsFlat}
-use Rattle.b2_virtual.proofs.ExtendedTextsFollowDirectly.{cmp, upto_more, first_goes_on, last_goes_on, begins_before}
+use Rattle.b2_virtual.specs.Spots.{Numbers, GoesOn, GoesFurther, ComesBefore, IsFlat}
+use Rattle.b2_virtual.proofs.ExtendedTextsFollowDirectly.{cmp, upto_more, first_goes_on, last_goes_on, begins_before, before_differs}
 
 abbrev Tree : Type 0
 Tree = BTreeMap (List ℕ) ℕ
@@ -52,6 +51,22 @@ pub first_is : (t : Tree) (m : Numbers) (text : List ℕ) (r rest : Entries) (x 
 first_is t m text r rest x e range is more =
     let inside : IsEntryInRange cmp (Included text) Unbounded t x = subst (λ (l : Entries). IfSome (slice_get l 0) (IsEntryInRange cmp (Included text) Unbounded t)) is range.1 in
     (x.0, x.1, same_get t m x.0 e ∙ inside.1, more)
+
+-- ---- after the text
+
+pub none_after : (t : Tree) (m : Numbers) (text : List ℕ) (r : Entries) → SeenAs t m → IsRangeOf cmp (Excluded text) Unbounded t r → r ≡ [] → GoesFurther m text → ⊥
+none_after t m text r e range none g = absent g.1 (sym (range.5 none g.0 (begins_before text g.0 g.3 g.4, tt)) ∙ sym (same_get t m g.0 e) ∙ g.2)
+
+pub next_after : (t : Tree) (m : Numbers) (text : List ℕ) (r rest : Entries) (x : List ℕ × ℕ) → SeenAs t m → IsRangeOf cmp (Excluded text) Unbounded t r → r ≡ x ∷ rest → GoesFurther m text → IsFrontOf text x.0
+next_after t m text r rest x e range is g =
+    let inside : IsEntryInRange cmp (Excluded text) Unbounded t x = subst (λ (l : Entries). IfSome (slice_get l 0) (IsEntryInRange cmp (Excluded text) Unbounded t)) is range.1 in
+    let least : IsLeBy cmp x.0 g.0 = subst (λ (l : Entries). IfSome (slice_get l 0) (λ y. IsLeBy cmp y.0 g.0)) is (range.2 g.0 (begins_before text g.0 g.3 g.4, tt) (found t m g.0 g.1 e g.2)) in
+    first_goes_on text x.0 g.0 (ap is_gt inside.0.0) least g.3
+
+pub next_is : (t : Tree) (m : Numbers) (text : List ℕ) (r rest : Entries) (x : List ℕ × ℕ) → SeenAs t m → IsRangeOf cmp (Excluded text) Unbounded t r → r ≡ x ∷ rest → IsFrontOf text x.0 → GoesFurther m text
+next_is t m text r rest x e range is more =
+    let inside : IsEntryInRange cmp (Excluded text) Unbounded t x = subst (λ (l : Entries). IfSome (slice_get l 0) (IsEntryInRange cmp (Excluded text) Unbounded t)) is range.1 in
+    (x.0, x.1, same_get t m x.0 e ∙ inside.1, more, before_differs text x.0 inside.0.0)
 
 -- ---- before the text
 

@@ -1,5 +1,7 @@
 -- Where a path stands among paths in order of their bytes, so that what lies in a folder comes directly after it.
-use Rattle.std.specs.Prelude.{◌≡◌, ℕ, Bool, true, false, List, [], ◌∷◌, ◌++◌, Some, codes}
+use Rattle.std.specs.Prelude.{◌≡◌, ◌≢◌, ℕ, Bool, true, false, List, [], ◌∷◌, ◌++◌, ◌⊎◌, None, Some, codes, if◌then◌else◌}
+use Rattle.std.specs.List.{list_any}
+use Rattle.std.specs.Str.{bytes_eq}
 use Rattle.std.specs.Ordering.{nat_cmp}
 use Rattle.std.specs.Cmp.Lexicographic.{slice_cmp}
 use Rattle.std.specs.FinMap as map
@@ -41,3 +43,23 @@ ComesBefore numbers text = (key : List ℕ) × (number : ℕ) × (map.get number
 -- no spot begins another one
 abbrev pub IsFlat : Numbers → Type 0
 IsFlat numbers = (a b : List ℕ) (i k : ℕ) → map.get numbers a ≡ Some i → map.get numbers b ≡ Some k → IsFrontOf a b → a ≡ b
+
+-- some other spot goes on from this one
+abbrev pub GoesFurther : Numbers → List ℕ → Type 0
+GoesFurther numbers text = (key : List ℕ) × (number : ℕ) × (map.get numbers key ≡ Some number) × IsFrontOf text key × (text ≢ key)
+
+-- a further spot joins others, unless one of them begins it
+abbrev pub IsSifted : Numbers → List ℕ → ℕ → Numbers → Type 0
+IsSifted before text number after =
+    (ComesBefore before text × (after ≡ before)) ⊎ (¬ ComesBefore before text × ((q : List ℕ) → map.get after q ≡ (if bytes_eq q text then Some number else map.get before q)))
+
+-- Those of some spots that no other one begins. One of them begins each spot.
+pub record AreOutermost (every outermost : Numbers) : Type 0 where
+  pub flat : IsFlat outermost
+  pub among : (key : List ℕ) (number : ℕ) → map.get outermost key ≡ Some number → map.get every key ≡ Some number
+  pub covers : (key : List ℕ) (number : ℕ) → map.get every key ≡ Some number → ComesBefore outermost key
+
+-- some spots as a map, and those that no other one begins
+pub record AreOwnSpots (spots : List (List ℕ)) (every outermost : Numbers) : Type 0 where
+  pub every_is : (q : List ℕ) → map.get every q ≡ (if list_any (bytes_eq q) spots then Some 1 else None)
+  pub outermost_are : AreOutermost every outermost

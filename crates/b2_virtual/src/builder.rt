@@ -7,9 +7,10 @@ ghost use Rattle.b2_host.specs.FileCalls.{log_path};
 ghost use Rattle.b2_virtual.specs.Joining.{stands_in, number_in, number_of, joined, AreDistinct};
 ghost use Rattle.b2_virtual.specs.Clashes.{AreNested, Clashes, IsFirstClash, Fits, AreApart};
 ghost use Rattle.b2_virtual.specs.Refusals.{IsOfNew, IsClashBy, IsTooManyBy, IsOfStep};
-ghost use Rattle.b2_virtual.specs.Spots.{spot};
+ghost use Rattle.b2_virtual.specs.Spots.{spot, AreOwnSpots};
 
 use crate::fault::VirtualFault;
+use crate::own_spots::OwnSpots;
 use crate::same::is_same;
 use crate::spot::{spot, spots};
 use crate::spot_map::SpotMap;
@@ -81,13 +82,32 @@ fn is_nested(path: &Path, others: &[Path]) -> bool
     false
 }
 
+/// Whether an output of a step, whose spot is `place`, is nested with another one. Where there are spots to look it up in, it is
+/// not compared with each.
+fn is_nested_alone(step: &Step, out: &Path, place: &Text, own: &Option<OwnSpots>) -> bool
+    requires place { place.now ≡ spot out.now }
+    requires among { Contains step.now.outs out.now }
+    requires normal { AllByRecursion IsNormal step.now.outs }
+    requires own { IfSome own.now (λ o. AreOwnSpots (map spot step.now.outs) o.every o.outermost) }
+    ensures { IsTrue result ↔ ((other : List ℕ) × Contains step.now.outs other × AreNested out.now other) }
+{
+    match own {
+        None => is_nested(out, step.outs.as_slice()),
+        Some(own) => own.is_nested(place),
+    }
+}
+
 /// Whether an output of a step cannot stand, whatever the other steps are: it is the log or lies below it, or it and
 /// another one are nested.
-fn clashes_alone(step: &Step, out: &Path) -> bool
+fn clashes_alone(step: &Step, out: &Path, place: &Text, own: &Option<OwnSpots>) -> bool
+    requires place { place.now ≡ spot out.now }
+    requires among { Contains step.now.outs out.now }
+    requires normal { AllByRecursion IsNormal step.now.outs }
+    requires own { IfSome own.now (λ o. AreOwnSpots (map spot step.now.outs) o.every o.outermost) }
     ensures clash { IsTrue result ↔ (((out.now ≡ log_path) ⊎ IsUnder out.now log_path) ⊎ ((other : List ℕ) × Contains step.now.outs other × AreNested out.now other)) }
     ensures normal { IsNormal out.now }
 {
-    is_log(out) || is_nested(out, step.outs.as_slice())
+    is_log(out) || is_nested_alone(step, out, place, own)
 }
 
 /// The number of the first step that is equal, where there is one.
@@ -172,27 +192,35 @@ impl Builder {
     }
 
     /// Whether an output cannot stand; `place` is its spot.
-    fn clashes(&self, step: &Step, out: &Path, place: &Text) -> bool
-        requires { place.now ≡ spot out.now }
-        ensures clash { IsTrue result ↔ Clashes self.now step.now out.now }
-        ensures normal { IsNormal out.now }
+    fn clashes(&self, step: &Step, out: &Path, place: &Text, own: &Option<OwnSpots>) -> bool
+        requires place { place.now ≡ spot out.now }
+        requires among { Contains step.now.outs out.now }
+        requires normal { AllByRecursion IsNormal step.now.outs }
+        requires own { IfSome own.now (λ o. AreOwnSpots (map spot step.now.outs) o.every o.outermost) }
+        ensures { IsTrue result ↔ Clashes self.now step.now out.now }
     {
-        if clashes_alone(step, out) {
+        if clashes_alone(step, out, place, own) {
             return true;
         }
         self.numbers.meets(place)
     }
 
     /// The first output of a step, in its order, that cannot stand beside the others.
-    fn first_clash<'a>(&self, step: &'a Step, spots: &[Text]) -> Option<&'a Path>
-        requires { spots.now ≡ map spot step.now.outs }
+    fn first_clash<'a>(
+        &self,
+        step: &'a Step,
+        spots: &[Text],
+        own: &Option<OwnSpots>,
+    ) -> Option<&'a Path>
+        requires spots { spots.now ≡ map spot step.now.outs }
+        requires normal { AllByRecursion IsNormal step.now.outs }
+        requires own { IfSome own.now (λ o. AreOwnSpots spots.now o.every o.outermost) }
         ensures clash { IfSome (option_copied result) (IsFirstClash self.now step.now) }
         ensures fits { option_copied result ≡ None → Fits self.now step.now }
-        ensures normal { option_copied result ≡ None → AllByRecursion IsNormal step.now.outs }
     {
         let outs = step.outs.as_slice();
         for (place, out) in outs.iter().enumerate() {
-            if self.clashes(step, out, &spots[place]) {
+            if self.clashes(step, out, &spots[place], own) {
                 return Some(out);
             }
         }
@@ -201,15 +229,16 @@ impl Builder {
 
     /// Whether a step that is none of those that stand may join them.
     fn check(&self, step: &Step, spots: &[Text]) -> Result<(), VirtualFault>
-        requires { spots.now ≡ map spot step.now.outs }
+        requires spots { spots.now ≡ map spot step.now.outs }
+        requires normal { AllByRecursion IsNormal step.now.outs }
         ensures fits { OnOk result (Fits self.now step.now) }
         ensures few { OnOk result (length self.now < 65536) }
-        ensures normal { OnOk result (AllByRecursion IsNormal step.now.outs) }
         ensures clash { IfErr result (IsClashBy self.now step.now) }
         ensures too_many { IfErr result (IsTooManyBy self.now step.now) }
         ensures of_step { IfErr result IsOfStep }
     {
-        if let Some(path) = self.first_clash(step, spots) {
+        let own = OwnSpots::of_many(self.alloc, spots)?;
+        if let Some(path) = self.first_clash(step, spots, &own) {
             let path = path.copy()?;
             return Err(VirtualFault::PathClash { path });
         }
@@ -248,7 +277,8 @@ impl Builder {
     /// output or lies in one, or it is the log or lies below it. It names the first such output in the step's order.
     /// `TooManySteps` comes exactly where the outputs can stand and there are 65,536 steps.
     ///
-    /// Each output takes two look-ups in an ordered map and is compared with the step's own outputs.
+    /// Each output takes a few look-ups in ordered maps, so that n outputs take about n log n comparisons. Fewer than nine are
+    /// compared with one another too, in place of look-ups among them that would take memory.
     pub fn add(&mut self, step: Step) -> Result<u32, VirtualFault>
         ensures number { IfOk result (λ number. number ≡ number_in self.old step) }
         ensures joined { OnOk result (self.new ≡ joined self.old step) }

@@ -16,6 +16,7 @@ mod distinct;
 pub mod entry;
 pub mod fault;
 pub mod laws;
+mod own_spots;
 pub mod paths;
 mod same;
 mod spot;

@@ -1,5 +1,6 @@
 //! The spots of paths.
-ghost use Rattle.std.specs.Prelude.{◌≡◌, ◌≢◌, ◌||◌, ◌++◌, codes, map, IfOk};
+ghost use Rattle.std.specs.Prelude.{◌≡◌, ◌≢◌, ◌||◌, ◌++◌, codes, map, IfOk, OnOk};
+ghost use Rattle.std.specs.List.{AllByRecursion};
 ghost use Rattle.b2_base.specs.Bytes.{HasNoZero};
 ghost use Rattle.b2_base.specs.Normal.{IsNormal, first_part};
 ghost use Rattle.b2_base.specs.Segments.{is_rooted, is_up};
@@ -51,7 +52,8 @@ fn spot_of_name(alloc: Global, text: &str) -> Result<Text, OutOfMemory>
 
 /// The spot of a path: a text that begins the spot of each path inside, and of no other one.
 pub fn spot(alloc: Global, path: &Path) -> Result<Text, OutOfMemory>
-    ensures { IfOk result (λ made. made ≡ spot path.now) }
+    ensures text { IfOk result (λ made. made ≡ spot path.now) }
+    ensures normal { IsNormal path.now }
 {
     match path.as_str() {
         "." => Ok(Text::new(alloc, "./")?),
@@ -62,7 +64,8 @@ pub fn spot(alloc: Global, path: &Path) -> Result<Text, OutOfMemory>
 
 /// The spots of paths, in order.
 pub fn spots(alloc: Global, paths: &[Path]) -> Result<TextList, OutOfMemory>
-    ensures { IfOk result (λ made. made ≡ map spot paths.now) }
+    ensures texts { IfOk result (λ made. made ≡ map spot paths.now) }
+    ensures normal { OnOk result (AllByRecursion IsNormal paths.now) }
 {
     let mut made = TextList::new(alloc);
     for path in paths {

@@ -1,17 +1,18 @@
 //! A map from spots, in order.
-ghost use Rattle.std.specs.Prelude.{◌≡◌, ◌↔◌, ℕ, List, [], ◌⊎◌, true, false, None, Some, IsTrue, OnOk, OnErr, if◌then◌else◌};
+ghost use Rattle.std.specs.Prelude.{◌≡◌, ◌↔◌, ℕ, List, [], ◌⊎◌, true, false, None, Some, IsTrue, IfOk, OnOk, OnErr, if◌then◌else◌};
 ghost use Rattle.std.specs.List.{list_any};
 ghost use Rattle.std.specs.Str.{bytes_eq};
 ghost use Rattle.std.specs.Option.{option_copied};
 ghost use Rattle.std.specs.FinMap as map;
 ghost use Rattle.b2_base.specs.Bytes.{IsFrontOf};
-ghost use Rattle.b2_virtual.specs.Spots.{GoesOn, ComesBefore, IsFlat};
+ghost use Rattle.b2_virtual.specs.Spots.{GoesOn, GoesFurther, ComesBefore, IsFlat, IsSifted, AreOutermost};
 
 use b2_base::fault::OutOfMemory;
 use b2_base::text::Text;
 use std::alloc::Global;
 use std::collections::BTreeMap;
 use std::marker::Model;
+use std::ops::Bound;
 
 /// A number for each of some texts, seen as a finite map from their bytes. Where no text begins another one, two look-ups
 /// tell whether a further text begins one of them, or one of them that text.
@@ -95,6 +96,20 @@ impl SpotMap {
         self.goes_on(text) || self.comes_before(text)
     }
 
+    /// Whether another one of the texts goes on from this one; takes no memory.
+    pub fn goes_further(&self, text: &Text) -> bool
+        ensures { IsTrue result ↔ GoesFurther self.now text.now }
+    {
+        match self
+            .numbers
+            .range((Bound::Excluded(text), Bound::<&Text>::Unbounded))
+            .next()
+        {
+            None => false,
+            Some((key, _number)) => begins(text, key),
+        }
+    }
+
     fn insert(&mut self, text: Text, number: u32) -> Result<(), OutOfMemory>
         ensures ok { OnOk result ((q : List ℕ) → map.get self.new q ≡ (if bytes_eq q text then Some number else map.get self.old q)) }
         ensures err { OnErr result (self.new ≡ self.old) }
@@ -141,5 +156,30 @@ impl SpotMap {
                 Err(fault)
             }
         }
+    }
+
+    /// Gives a text that is not there a number, unless one of the texts begins it.
+    fn insert_outermost(&mut self, text: &Text, number: u32) -> Result<(), OutOfMemory>
+        requires flat { IsFlat self.old }
+        requires none { map.get self.old text.now ≡ None }
+        ensures { OnOk result (IsSifted self.old text.now number self.new) }
+    {
+        if self.comes_before(text) {
+            return Ok(());
+        }
+        self.insert(text.copy()?, number)?;
+        Ok(())
+    }
+
+    /// The texts that none of the others begins. In order a text comes before all that go on from it, so one look-up tells
+    /// whether a text is one of them.
+    pub fn outermost(&self, alloc: Global) -> Result<SpotMap, OutOfMemory>
+        ensures { IfOk result (AreOutermost self.now) }
+    {
+        let mut made = SpotMap::new(alloc);
+        for (text, number) in &self.numbers {
+            made.insert_outermost(text, *number)?;
+        }
+        Ok(made)
     }
 }

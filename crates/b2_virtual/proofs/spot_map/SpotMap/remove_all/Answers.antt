@@ -1,4 +1,4 @@
-use Rattle.std.proofs.Common.{List, ℕ, None, cond, ap, ◌∙◌, arith}
+use Rattle.std.proofs.Common.{List, ℕ, None, cond, ap, ◌∙◌}
 use Rattle.std.specs.FinMap as map
 use Rattle.std.specs.Str.{bytes_eq}
 use Rattle.b2_virtual.proofs.OtherSpotsKeepTheirNumbers.{one_more}
