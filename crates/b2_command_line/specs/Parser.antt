@@ -7,19 +7,20 @@ use Rattle.clap.specs.declared.builder.action.ArgAction.TheVariants.{Set, SetTru
 use Rattle.clap.specs.declared.parser.matches.Found.{Found}
 use Rattle.b2_command_line.specs.declared.words.Command.{Command}
 use Rattle.b2_command_line.specs.declared.words.Words.{Words}
-use Rattle.b2_command_line.specs.Words.{command_asked, with_words}
+use Rattle.b2_command_line.specs.Words.{small_a, small_j, small_q, command_asked, with_words}
+use Rattle.b2_command_line.specs.Grouped.{small_n}
 
 abbrev pub jobs_rule : Rule
-jobs_rule = record (new_rule (codes "jobs")) { short = Some 106; action = Some Set }
+jobs_rule = record (new_rule (codes "jobs")) { short = Some small_j; action = Some Set }
 
 abbrev pub all_rule : Rule
-all_rule = record (new_rule (codes "all")) { short = Some 97; action = Some SetTrue }
+all_rule = record (new_rule (codes "all")) { short = Some small_a; action = Some SetTrue }
 
 abbrev pub quit_rule : Rule
-quit_rule = record (new_rule (codes "quit")) { short = Some 113; action = Some SetTrue }
+quit_rule = record (new_rule (codes "quit")) { short = Some small_q; action = Some SetTrue }
 
 abbrev pub steps_rule : Rule
-steps_rule = record (new_rule (codes "steps")) { short = Some 110; action = Some SetTrue }
+steps_rule = record (new_rule (codes "steps")) { short = Some small_n; action = Some SetTrue }
 
 abbrev pub by_rule : Rule
 by_rule = record (new_rule (codes "by")) { long = Some (codes "by"); action = Some Set }

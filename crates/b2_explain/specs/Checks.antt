@@ -1,7 +1,6 @@
 -- A claimed cause, row by row, by what is known of files.
-use Rattle.std.specs.Prelude.{◌≡◌, ◌≢◌, ℕ, ◌<◌, ◌≤◌, Bool, true, false, List, length, map, slice_get, slice_index, slice_index_or, Option, Some, None}
+use Rattle.std.specs.Prelude.{◌≡◌, ◌≢◌, ℕ, ◌<◌, ◌≤◌, Bool, true, false, List, length, map, slice_get, slice_index, Option, Some, None}
 use Rattle.std.specs.Option.{option_copied}
-use Rattle.std.specs.List.{Contains}
 use Rattle.b2_base.specs.Bytes.{Before}
 use Rattle.b2_plan.specs.declared.plan.Plan.{Plan}
 use Rattle.b2_plan.specs.declared.step.Step.{Step}
@@ -21,7 +20,7 @@ use Rattle.b2_board.specs.Boards.{members_of}
 use Rattle.b2_explain.specs.declared.cause.Cause.{Cause}
 use Rattle.b2_explain.specs.declared.cause.Cause.TheVariants as causes
 use Rattle.b2_explain.specs.declared.cause.Why.{Why}
-use Rattle.b2_explain.specs.declared.checks.Case.{Case}
+use Rattle.b2_explain.specs.declared.checks.StepCase.{StepCase}
 use Rattle.b2_explain.specs.declared.survey.Judged.{Judged}
 use Rattle.b2_explain.specs.declared.survey.Survey.{Survey}
 use Rattle.b2_explain.specs.Sights.{IsFirstFile, IsUnsettledMember, IsSeenAt}
@@ -127,7 +126,7 @@ IsClosedCause all f step numbers last cause = IsOrdinary all step × IsFileCause
 -- ---- a case
 
 -- this holds of the parts of a case
-abbrev pub OnCase : (Knowledge → Step → StepNumbers → Option Record → Type 0) → Case → Type 0
+abbrev pub OnCase : (Knowledge → Step → StepNumbers → Option Record → Type 0) → StepCase → Type 0
 OnCase P c = P c.facts.now c.step.now c.numbers.now (option_copied c.last)
 
 -- The numbers are those of files, the members stand in byte order, and the record is one of these outputs.

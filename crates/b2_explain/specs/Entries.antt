@@ -1,7 +1,7 @@
 -- The update that causes are told of: it judges by stamps, and nothing has happened in it.
 use Rattle.std.specs.Prelude.{◌≡◌, Bool, false, List, [], ℕ, if◌then◌else◌}
 use Rattle.std.proofs.Common.{ap}
-use Rattle.b2_host.specs.Disks.{Folder, Disk, Past}
+use Rattle.b2_host.specs.Disks.{Folder, Past}
 use Rattle.b2_plan.specs.declared.plan.Plan.{Plan}
 use Rattle.b2_log.specs.declared.line.LogLine.{LogLine}
 use Rattle.jam_scan.specs.Scans.{is_scanned, scan_of}

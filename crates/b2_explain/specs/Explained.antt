@@ -1,5 +1,5 @@
 -- What explaining and checking promise, where files are visible.
-use Rattle.std.specs.Prelude.{◌≡◌, ◌↔◌, ⊤, Bool, List, [], IsTrue, Result, Ok, Err}
+use Rattle.std.specs.Prelude.{◌↔◌, ⊤, Bool, List, [], IsTrue, Result, Ok, Err}
 use Rattle.std.specs.Option.{IfSome}
 use Rattle.b2_host.specs.Disks.{Disk}
 use Rattle.b2_host.specs.Outside.{Outside}

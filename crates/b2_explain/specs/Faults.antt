@@ -1,5 +1,5 @@
 -- Faults, and how the counts of faults stand to them.
-use Rattle.std.specs.Prelude.{◌≡◌, ℕ, true, Result, Ok, Err}
+use Rattle.std.specs.Prelude.{◌≡◌, true, Result, Ok, Err}
 use Rattle.b2_base.specs.Counts.{Rose}
 use Rattle.b2_host.specs.declared.fault.IoFault.{IoFault}
 use Rattle.b2_host.specs.declared.fault.IoFault.TheVariants as io

@@ -1,14 +1,13 @@
 -- What is told of a survey that is whole.
-use Rattle.std.specs.Prelude.{◌≡◌, ⊤, ℕ, Bool, true, false, List, [], ◌∷◌, ◌++◌, map, Option, Some, None, Result, Ok, Err}
+use Rattle.std.specs.Prelude.{◌≡◌, ⊤, ℕ, Bool, true, false, List, [], ◌∷◌, ◌++◌, map, Some, None, Result}
 use Rattle.std.specs.List.{Contains}
-use Rattle.b2_host.specs.Disks.{Disk}
 use Rattle.b2_host.specs.Outside.{Outside}
 use Rattle.b2_plan.specs.declared.plan.Plan.{Plan}
 use Rattle.b2_plan.specs.declared.step.Step.{Step}
 use Rattle.b2_plan.specs.Plans.{step_at}
 use Rattle.b2_log.specs.declared.line.LogLine.{LogLine}
 use Rattle.b2_log.specs.Finding.{find_record}
-use Rattle.b2_sched.specs.Schedules.{IsNeeded, CanLook, Lacks}
+use Rattle.b2_sched.specs.Schedules.{IsNeeded, CanLook}
 use Rattle.b2_runs.specs.Outcomes.{IsListOf}
 use Rattle.b2_facts.specs.Facts.{Knowledge, IsAbout, path_at}
 use Rattle.b2_facts.specs.declared.stop.FilesStop.{FilesStop}

@@ -6,9 +6,8 @@ use Rattle.b2_host.specs.ChildProcesses.{BothTold}
 use Rattle.b2_plan.specs.declared.plan.Plan.{Plan}
 use Rattle.b2_plan.specs.declared.step.Step.{Step}
 use Rattle.b2_plan.specs.Plans.{step_at, Apart}
-use Rattle.b2_log.specs.declared.line.LogLine.{LogLine}
 use Rattle.b2_log.specs.declared.line.Record.{Record}
-use Rattle.b2_log.specs.Finding.{find_record, kept}
+use Rattle.b2_log.specs.Finding.{find_record}
 use Rattle.b2_log.specs.Good.{IsRising}
 use Rattle.b2_runs.specs.Staleness.{Update}
 use Rattle.b2_runs.specs.FileReads.{IsTooBig}
@@ -18,7 +17,6 @@ use Rattle.b2_sched.specs.Schedules.{Schedule, IsStep, IsUnjudged, IsStale, IsSe
 use Rattle.b2_facts.specs.Facts.{Knowledge, path_at}
 use Rattle.b2_facts.specs.declared.stop.FilesStop.{FilesStop}
 use Rattle.b2_facts.specs.declared.stop.FilesStop.TheVariants as stops
-use Rattle.b2_reach.specs.declared.sights.Sights.{Sights}
 use Rattle.b2_reach.specs.Sightings.{IsTrueSight}
 use Rattle.b2_reach.specs.Laws.{IsUpdateOf}
 use Rattle.b2_verdicts.specs.declared.point.Point.{Point}
@@ -27,7 +25,7 @@ use Rattle.b2_board.specs.Boards.{IsBoard, members_of}
 use Rattle.b2_looks.specs.Numbers.{AreNumbersBy}
 use Rattle.b2_explain.specs.declared.survey.Judged.{Judged}
 use Rattle.b2_explain.specs.declared.survey.Survey.{Survey}
-use Rattle.b2_explain.specs.Entries.{Made, AreTrueLines, entry_of}
+use Rattle.b2_explain.specs.Entries.{AreTrueLines}
 
 -- ---- over every host
 

@@ -1,7 +1,6 @@
 -- Why a step is to run, or is not, where an update begins that judges by stamps.
 use Rattle.std.specs.Prelude.{◌≡◌, ◌≢◌, ◌↔◌, ℕ, ◌<◌, ◌≤◌, Bool, true, false, List, [], Option, Some, None, map}
 use Rattle.std.specs.List.{Contains}
-use Rattle.b2_base.specs.Bytes.{Before}
 use Rattle.b2_host.specs.Disks.{File}
 use Rattle.b2_host.specs.FileCalls.{stamp_at}
 use Rattle.b2_plan.specs.declared.step.Step.{Step}

@@ -11,7 +11,7 @@ ghost use Rattle.b2_explain.specs.Checks.{IsCheckedOpen, IsCheckedCause, IsCheck
 ghost use Rattle.b2_explain.specs.Explained.{CheckTold};
 
 use crate::cause::{Cause, Why};
-use crate::checks::{Case, any_missing, is_closed_cause, is_first_missing, is_first_unsettled};
+use crate::checks::{StepCase, any_missing, is_closed_cause, is_first_missing, is_first_unsettled};
 use crate::explain::survey;
 use crate::fault::ExplainFault;
 use crate::survey::{Survey, members_of};
@@ -47,7 +47,7 @@ fn is_cause(all: bool, survey: &Survey, step: &Step, number: u32, cause: &Cause)
     match &survey.judged[number as usize] {
         None => is_open_cause(survey, number, cause),
         Some(judged) => {
-            let case = Case {
+            let case = StepCase {
                 facts: &survey.sights.facts,
                 step,
                 numbers: &judged.numbers,

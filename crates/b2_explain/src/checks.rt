@@ -33,7 +33,7 @@ use std::cmp::Ordering;
 
 /// The files of a step, and the record that the log has of its outputs.
 #[derive(Drop)]
-pub struct Case<'a> {
+pub struct StepCase<'a> {
     pub facts: &'a Facts,
     pub step: &'a Step,
     pub numbers: &'a StepNumbers,
@@ -329,7 +329,7 @@ fn is_other_input(
 }
 
 /// Whether a cause is right from the row on that tells of a record's stamps, where the record has the step's text.
-fn is_stamp_cause(case: &Case, last: &Record, cause: &Cause) -> bool
+fn is_stamp_cause(case: &StepCase, last: &Record, cause: &Cause) -> bool
     requires parts { OnCase AreParts case.now }
     requires found { option_copied case.now.last ≡ Some last.now }
     ensures { IsTrue result ↔ IsStampCause case.now.facts.now case.now.numbers.now last.now cause.now }
@@ -364,7 +364,7 @@ fn is_other_text(step: &Step, last: &Record, logged: &Text) -> bool
 }
 
 /// Whether a cause is right from the row on that tells of a record's text.
-fn is_record_cause(case: &Case, last: &Record, cause: &Cause) -> bool
+fn is_record_cause(case: &StepCase, last: &Record, cause: &Cause) -> bool
     requires parts { OnCase AreParts case.now }
     requires found { option_copied case.now.last ≡ Some last.now }
     ensures { IsTrue result ↔ IsRecordCause case.now.facts.now case.now.step.now case.now.numbers.now last.now cause.now }
@@ -383,7 +383,7 @@ fn tells_no_record(cause: &Cause) -> bool
 }
 
 /// Whether a cause is right from the row on that tells of records.
-fn is_log_cause(case: &Case, cause: &Cause) -> bool
+fn is_log_cause(case: &StepCase, cause: &Cause) -> bool
     requires parts { OnCase AreParts case.now }
     ensures { IsTrue result ↔ OnCase (λ f step numbers last. IsLogCause f step numbers last cause.now) case.now }
 {
@@ -411,7 +411,7 @@ fn tells_older(facts: &Facts, first: u32, newer: u32, cause: &Cause) -> bool
 }
 
 /// Whether a cause is right from the row on that tells of an older output.
-fn is_member_cause(case: &Case, cause: &Cause) -> bool
+fn is_member_cause(case: &StepCase, cause: &Cause) -> bool
     requires parts { OnCase AreParts case.now }
     ensures { IsTrue result ↔ OnCase (λ f step numbers last. IsMemberCause f step numbers last cause.now) case.now }
 {
@@ -424,7 +424,7 @@ fn is_member_cause(case: &Case, cause: &Cause) -> bool
 }
 
 /// Whether a cause is right from the row on that tells of a missing output.
-fn is_file_cause(case: &Case, cause: &Cause) -> bool
+fn is_file_cause(case: &StepCase, cause: &Cause) -> bool
     requires parts { OnCase AreParts case.now }
     ensures { IsTrue result ↔ OnCase (λ f step numbers last. IsFileCause f step numbers last cause.now) case.now }
 {
@@ -450,7 +450,7 @@ fn is_notfile(all: bool, step: &Step) -> bool
 }
 
 /// Whether a cause is that of a step of which all that it reads is settled.
-pub fn is_closed_cause(all: bool, case: &Case, cause: &Cause) -> bool
+pub fn is_closed_cause(all: bool, case: &StepCase, cause: &Cause) -> bool
     requires parts { OnCase AreParts case.now }
     ensures { IsTrue result ↔ OnCase (λ f step numbers last. IsClosedCause all f step numbers last cause.now) case.now }
 {

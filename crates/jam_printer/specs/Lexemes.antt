@@ -1,5 +1,5 @@
 -- The lexemes that a tree is written with.
-use Rattle.std.specs.Prelude.{ℕ, Bool, false, List, [], ◌∷◌, ◌++◌, Option, map, flat_map}
+use Rattle.std.specs.Prelude.{◌≡◌, ℕ, Bool, true, false, List, [], ◌∷◌, ◌++◌, Option, map, flat_map}
 use Rattle.std.specs.declared.vec.Vec.{Vec}
 use Rattle.std.specs.declared.alloc.Global.{Global}
 use Rattle.jam_grammar.specs.declared.mark.TokenMark.{TokenMark}
@@ -7,11 +7,12 @@ use Rattle.jam_grammar.specs.declared.mark.TokenMark.TheVariants as marks
 use Rattle.jam_grammar.specs.declared.tree.Arg.{Arg}
 use Rattle.jam_grammar.specs.declared.tree.Block.{Block}
 use Rattle.jam_grammar.specs.declared.tree.Expr.{Expr}
+use Rattle.jam_grammar.specs.declared.tree.Form.{Form}
 use Rattle.jam_grammar.specs.declared.tree.Param.{Param}
 use Rattle.jam_grammar.specs.declared.tree.Sign.{Sign}
 use Rattle.jam_grammar.specs.declared.tree.Tree.{Tree}
-use Rattle.jam_grammar.specs.Trees.{value_tree}
-use Rattle.jam_grammar.specs.Spelling.{Sym, Key, Heads, Says, Named, Raw, From, Never, Anywhere, arg_syms, args_syms, expr_syms, value_syms, set_syms, sign_mark, local_syms, params_syms, block_syms, braced, tree_syms}
+use Rattle.jam_grammar.specs.Trees.{FormTree, Local, Assign, AssignOn, Include, Return, Actions, Call, value_tree, form_tree}
+use Rattle.jam_grammar.specs.Spelling.{Sym, Key, Heads, Says, Named, Raw, From, Never, Anywhere, arg_syms, args_syms, expr_syms, value_syms, set_syms, sign_mark, local_syms, params_syms, block_syms, braced, only, form_syms, tree_syms}
 use Rattle.jam_grammar.specs.Alike.{Said, mark_said, word_said, body_said, newly, heads_said}
 use Rattle.jam_spelling.specs.declared.lexeme.Lexeme.{Lexeme}
 
@@ -32,6 +33,10 @@ lexemes_of_sym Never = []
 -- symbols are written one after the other
 abbrev pub written_as : List Sym → List Lexeme
 written_as symbols = flat_map lexemes_of_sym symbols
+
+-- behind the lexemes before stand those of these symbols
+abbrev pub Appends : List Sym → Vec Lexeme Global → Vec Lexeme Global → Type 0
+Appends symbols before after = after.items ≡ before.items ++ written_as symbols
 
 -- the symbols of a `local`
 abbrev pub locals_syms : List Arg → Option (Vec Arg Global) → List Sym
@@ -64,6 +69,21 @@ rule_syms name params block = Key marks.Rule ∷ Says name ∷ (params_syms (map
 -- the symbols of a `for`
 abbrev pub for_syms : Bool → List ℕ → List Arg → Block → List Sym
 for_syms local name items block = Key marks.For ∷ (local_syms local ++ (Says name ∷ Key marks.In ∷ (args_syms items ++ braced (block_syms block))))
+
+-- whether a statement holds no other statement
+abbrev pub is_simple : FormTree → Bool
+is_simple (Local names value) = true
+is_simple (Assign target sign value) = true
+is_simple (AssignOn target on sign value) = true
+is_simple (Include names) = true
+is_simple (Return value) = true
+is_simple (Actions name together existing quietly body) = true
+is_simple (Call head lists) = true
+is_simple _ = false
+
+-- the symbols of such a statement
+abbrev pub simple_syms : Form → List Sym
+simple_syms form = only (is_simple (form_tree form)) (form_syms form)
 
 -- the lexemes of a tree
 abbrev pub lexemes_of : Tree → List Lexeme

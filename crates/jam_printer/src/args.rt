@@ -1,7 +1,7 @@
 //! Arguments.
-ghost use Rattle.std.specs.Prelude.{◌≡◌, ◌++◌, [], IfOk};
+ghost use Rattle.std.specs.Prelude.{IfOk};
 ghost use Rattle.jam_grammar.specs.Spelling.{arg_syms, inner_syms, args_syms, lists_syms, further_syms};
-ghost use Rattle.jam_printer.specs.Lexemes.{written_as};
+ghost use Rattle.jam_printer.specs.Lexemes.{Appends};
 
 use crate::lexemes::{push_key, push_word};
 use b2_base::fault::OutOfMemory;
@@ -12,7 +12,7 @@ use jam_spelling::lexeme::Lexeme;
 /// Appends an argument.
 #[cycle(args)]
 pub fn push_arg(lexemes: &mut Vec<Lexeme>, arg: &Arg) -> Result<(), OutOfMemory>
-    ensures { IfOk result (λ _. lexemes.new.items ≡ lexemes.old.items ++ written_as (arg_syms arg.now)) }
+    ensures { IfOk result (λ _. Appends (arg_syms arg.now) lexemes.old lexemes.new) }
 {
     match arg {
         Arg::Word(word) => push_word(lexemes, word.text()),
@@ -27,7 +27,7 @@ pub fn push_arg(lexemes: &mut Vec<Lexeme>, arg: &Arg) -> Result<(), OutOfMemory>
 /// Appends what stands in brackets.
 #[cycle(args)]
 fn push_inner(lexemes: &mut Vec<Lexeme>, inner: &Inner) -> Result<(), OutOfMemory>
-    ensures { IfOk result (λ _. lexemes.new.items ≡ lexemes.old.items ++ written_as (inner_syms inner.now)) }
+    ensures { IfOk result (λ _. Appends (inner_syms inner.now) lexemes.old lexemes.new) }
 {
     match inner {
         Inner::Call { head, lists } => {
@@ -51,7 +51,7 @@ fn push_inner(lexemes: &mut Vec<Lexeme>, inner: &Inner) -> Result<(), OutOfMemor
 /// Appends arguments one after another.
 #[cycle(args)]
 pub fn push_args(lexemes: &mut Vec<Lexeme>, args: &[Arg]) -> Result<(), OutOfMemory>
-    ensures { IfOk result (λ _. lexemes.new.items ≡ lexemes.old.items ++ written_as (args_syms args.now)) }
+    ensures { IfOk result (λ _. Appends (args_syms args.now) lexemes.old lexemes.new) }
 {
     for arg in args {
         push_arg(lexemes, arg)?;
@@ -62,7 +62,7 @@ pub fn push_args(lexemes: &mut Vec<Lexeme>, args: &[Arg]) -> Result<(), OutOfMem
 /// Appends lists with colons between them.
 #[cycle(args)]
 pub fn push_lists(lexemes: &mut Vec<Lexeme>, lists: &[Vec<Arg>]) -> Result<(), OutOfMemory>
-    ensures { IfOk result (λ _. lexemes.new.items ≡ lexemes.old.items ++ written_as (lists_syms lists.now)) }
+    ensures { IfOk result (λ _. Appends (lists_syms lists.now) lexemes.old lexemes.new) }
 {
     match lists {
         [] => Ok(()),
@@ -76,7 +76,7 @@ pub fn push_lists(lexemes: &mut Vec<Lexeme>, lists: &[Vec<Arg>]) -> Result<(), O
 /// Appends lists with a colon before each.
 #[cycle(args)]
 fn push_further(lexemes: &mut Vec<Lexeme>, lists: &[Vec<Arg>]) -> Result<(), OutOfMemory>
-    ensures { IfOk result (λ _. lexemes.new.items ≡ lexemes.old.items ++ written_as (further_syms lists.now)) }
+    ensures { IfOk result (λ _. Appends (further_syms lists.now) lexemes.old lexemes.new) }
 {
     for list in lists {
         push_key(lexemes, TokenMark::Colon)?;

@@ -1,8 +1,8 @@
 //! The lexemes of conditions.
-ghost use Rattle.std.specs.Prelude.{◌≡◌, ◌++◌, ◌∷◌, [], IfOk};
+ghost use Rattle.std.specs.Prelude.{◌≡◌, ◌++◌, ◌∷◌, IfOk};
 ghost use Rattle.jam_grammar.specs.Spelling.{Key, Anywhere, arg_syms, args_syms, expr_syms, pair_syms, joined_syms};
 ghost use Rattle.jam_grammar.specs.declared.mark.TokenMark.TheVariants as marks;
-ghost use Rattle.jam_printer.specs.Lexemes.{written_as};
+ghost use Rattle.jam_printer.specs.Lexemes.{Appends};
 ghost use Rattle.jam_printer.specs.Joints.{joint_level, joint_mark};
 
 use crate::args::{push_arg, push_args};
@@ -19,7 +19,7 @@ fn push_pair(
     sign: TokenMark,
     right: &Arg,
 ) -> Result<(), OutOfMemory>
-    ensures { IfOk result (λ _. lexemes.new.items ≡ lexemes.old.items ++ written_as (arg_syms left.now ++ Key sign ∷ arg_syms right.now)) }
+    ensures { IfOk result (λ _. Appends (arg_syms left.now ++ Key sign ∷ arg_syms right.now) lexemes.old lexemes.new) }
 {
     push_arg(lexemes, left)?;
     push_key(lexemes, sign)?;
@@ -28,7 +28,7 @@ fn push_pair(
 
 /// Appends an argument, `in` and a list.
 fn push_within(lexemes: &mut Vec<Lexeme>, item: &Arg, list: &[Arg]) -> Result<(), OutOfMemory>
-    ensures { IfOk result (λ _. lexemes.new.items ≡ lexemes.old.items ++ written_as (arg_syms item.now ++ Key marks.In ∷ args_syms list.now)) }
+    ensures { IfOk result (λ _. Appends (arg_syms item.now ++ Key marks.In ∷ args_syms list.now) lexemes.old lexemes.new) }
 {
     push_arg(lexemes, item)?;
     push_key(lexemes, TokenMark::In)?;
@@ -57,7 +57,7 @@ fn joint_mark(joint: Joint) -> TokenMark
 /// Appends a condition.
 #[cycle(exprs)]
 pub fn push_expr(lexemes: &mut Vec<Lexeme>, expr: &Expr) -> Result<(), OutOfMemory>
-    ensures { IfOk result (λ _. lexemes.new.items ≡ lexemes.old.items ++ written_as (expr_syms Anywhere expr.now)) }
+    ensures { IfOk result (λ _. Appends (expr_syms Anywhere expr.now) lexemes.old lexemes.new) }
 {
     match expr {
         Expr::Or(members) => push_members(lexemes, members, Joint::Or),
@@ -81,7 +81,7 @@ pub fn push_expr(lexemes: &mut Vec<Lexeme>, expr: &Expr) -> Result<(), OutOfMemo
 /// Appends a condition where it can be a member without parentheses; no source gives another.
 #[cycle(exprs)]
 fn push_member(lexemes: &mut Vec<Lexeme>, member: &Expr, joint: Joint) -> Result<(), OutOfMemory>
-    ensures { IfOk result (λ _. lexemes.new.items ≡ lexemes.old.items ++ written_as (expr_syms (joint_level joint) member.now)) }
+    ensures { IfOk result (λ _. Appends (expr_syms (joint_level joint) member.now) lexemes.old lexemes.new) }
 {
     match (joint, member) {
         (_, Expr::Or(_)) | (Joint::And, Expr::And(_)) => Ok(()),
@@ -96,7 +96,7 @@ fn push_members(
     members: &[Expr],
     joint: Joint,
 ) -> Result<(), OutOfMemory>
-    ensures { IfOk result (λ _. lexemes.new.items ≡ lexemes.old.items ++ written_as (pair_syms (joint_level joint) (joint_mark joint) members.now)) }
+    ensures { IfOk result (λ _. Appends (pair_syms (joint_level joint) (joint_mark joint) members.now) lexemes.old lexemes.new) }
 {
     match members {
         [] => Ok(()),
@@ -110,7 +110,7 @@ fn push_members(
 /// Appends conditions with a sign before each.
 #[cycle(exprs)]
 fn push_after(lexemes: &mut Vec<Lexeme>, members: &[Expr], joint: Joint) -> Result<(), OutOfMemory>
-    ensures { IfOk result (λ _. lexemes.new.items ≡ lexemes.old.items ++ written_as (joined_syms (joint_level joint) (joint_mark joint) members.now)) }
+    ensures { IfOk result (λ _. Appends (joined_syms (joint_level joint) (joint_mark joint) members.now) lexemes.old lexemes.new) }
 {
     for member in members {
         push_key(lexemes, joint_mark(joint))?;

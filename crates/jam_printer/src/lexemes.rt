@@ -1,9 +1,9 @@
 //! Single lexemes.
-ghost use Rattle.std.specs.Prelude.{◌≡◌, ◌++◌, ◌∷◌, [], IfOk};
+ghost use Rattle.std.specs.Prelude.{◌≡◌, ◌∷◌, [], IfOk};
 ghost use Rattle.b2_base.specs.Bytes.{HasNoZero};
 ghost use Rattle.jam_grammar.specs.Spelling.{Key, Says, Raw};
 ghost use Rattle.jam_grammar.specs.Alike.{mark_said};
-ghost use Rattle.jam_printer.specs.Lexemes.{written_as};
+ghost use Rattle.jam_printer.specs.Lexemes.{Appends};
 
 use b2_base::fault::OutOfMemory;
 use b2_base::text::Text;
@@ -73,7 +73,7 @@ fn key_kind(mark: TokenMark) -> TokenKind
 
 /// Appends what a mark stands for.
 pub fn push_key(lexemes: &mut Vec<Lexeme>, mark: TokenMark) -> Result<(), OutOfMemory>
-    ensures { IfOk result (λ _. lexemes.new.items ≡ lexemes.old.items ++ written_as (Key mark ∷ [])) }
+    ensures { IfOk result (λ _. Appends (Key mark ∷ []) lexemes.old lexemes.new) }
 {
     let text = Text::new(*lexemes.allocator(), key_text(mark))?;
     lexemes.push(Lexeme {
@@ -85,7 +85,7 @@ pub fn push_key(lexemes: &mut Vec<Lexeme>, mark: TokenMark) -> Result<(), OutOfM
 
 /// Appends a word.
 pub fn push_word(lexemes: &mut Vec<Lexeme>, text: &Text) -> Result<(), OutOfMemory>
-    ensures { IfOk result (λ _. lexemes.new.items ≡ lexemes.old.items ++ written_as (Says text.now ∷ [])) }
+    ensures { IfOk result (λ _. Appends (Says text.now ∷ []) lexemes.old lexemes.new) }
 {
     let text = text.copy()?;
     lexemes.push(Lexeme {
@@ -97,7 +97,7 @@ pub fn push_word(lexemes: &mut Vec<Lexeme>, text: &Text) -> Result<(), OutOfMemo
 
 /// Appends a body.
 pub fn push_body(lexemes: &mut Vec<Lexeme>, text: &Text) -> Result<(), OutOfMemory>
-    ensures { IfOk result (λ _. lexemes.new.items ≡ lexemes.old.items ++ written_as (Raw text.now ∷ [])) }
+    ensures { IfOk result (λ _. Appends (Raw text.now ∷ []) lexemes.old lexemes.new) }
 {
     let text = text.copy()?;
     lexemes.push(Lexeme {

@@ -1,14 +1,10 @@
 //! Writes the tree of a file as a text in the language of build files.
 #![tactic(auto)]
 
-ghost use Rattle.std.specs.Prelude.{◌≡◌, ℕ, List, IfOk};
-ghost use Rattle.b2_base.specs.declared.token.Token.{Token};
-ghost use Rattle.jam_lexer.specs.Tokens.{AreTokens};
-ghost use Rattle.jam_grammar.specs.Trees.{whole_tree};
-ghost use Rattle.jam_grammar.specs.Readings.{Reads};
+ghost use Rattle.std.specs.Prelude.{◌≡◌, IfOk};
 ghost use Rattle.jam_spelling.specs.Spelling.{bytes_of};
 ghost use Rattle.jam_printer.specs.Lexemes.{lexemes_of};
-ghost use Rattle.jam_printer.specs.ReadsBack.{ReadsBack};
+ghost use Rattle.jam_printer.specs.ReadsBack.{IsReadBack};
 
 mod args;
 mod exprs;
@@ -33,7 +29,7 @@ use std::alloc::Global;
 /// after `else`; and a mark of a parameter that is none of the three.
 pub fn print(alloc: Global, tree: &Tree) -> Result<Vec<u8>, OutOfMemory>
     ensures exact { IfOk result (λ printed. printed.items ≡ bytes_of (lexemes_of tree.now)) }
-    ensures reads_back { (bytes : List ℕ) (tokens : List Token) → AreTokens bytes tokens → Reads tokens tree.now → IfOk result (λ printed. ReadsBack printed.items (whole_tree tree.now)) }
+    ensures reads_back { IsReadBack tree.now result }
 {
     let mut lexemes = Vec::new(alloc);
     push_stmts(&mut lexemes, &tree.block)?;

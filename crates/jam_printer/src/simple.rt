@@ -2,14 +2,14 @@
 ghost use Rattle.std.specs.Prelude.{◌≡◌, ◌++◌, ◌∷◌, [], false, IfOk, option_copied};
 ghost use Rattle.jam_grammar.specs.declared.mark.TokenMark.TheVariants as marks;
 ghost use Rattle.jam_grammar.specs.Spelling.{Key, Heads, arg_syms, args_syms, lists_syms, set_syms, sign_mark};
-ghost use Rattle.jam_printer.specs.Lexemes.{written_as, modifier_lexemes, locals_syms, assign_on_syms, actions_syms};
+ghost use Rattle.jam_printer.specs.Lexemes.{Appends, modifier_lexemes, locals_syms, assign_on_syms, actions_syms, simple_syms};
 
 use crate::args::{push_arg, push_args, push_lists};
 use crate::lexemes::{push_body, push_key, push_word};
 use b2_base::fault::OutOfMemory;
 use b2_base::text::Text;
 use jam_grammar::mark::TokenMark;
-use jam_grammar::tree::{Arg, Sign};
+use jam_grammar::tree::{Arg, Form, Sign};
 use jam_spelling::lexeme::Lexeme;
 
 /// What stands between a name and its new value.
@@ -24,8 +24,8 @@ fn sign_mark(sign: Sign) -> TokenMark
 }
 
 /// Appends a sign or a key, a list, and the end of the statement.
-pub fn push_set(lexemes: &mut Vec<Lexeme>, mark: TokenMark, list: &[Arg]) -> Result<(), OutOfMemory>
-    ensures { IfOk result (λ _. lexemes.new.items ≡ lexemes.old.items ++ written_as (set_syms mark (args_syms list.now))) }
+fn push_set(lexemes: &mut Vec<Lexeme>, mark: TokenMark, list: &[Arg]) -> Result<(), OutOfMemory>
+    ensures { IfOk result (λ _. Appends (set_syms mark (args_syms list.now)) lexemes.old lexemes.new) }
 {
     push_key(lexemes, mark)?;
     push_args(lexemes, list)?;
@@ -33,12 +33,12 @@ pub fn push_set(lexemes: &mut Vec<Lexeme>, mark: TokenMark, list: &[Arg]) -> Res
 }
 
 /// Appends a `local`.
-pub fn push_local(
+fn push_local(
     lexemes: &mut Vec<Lexeme>,
     names: &[Arg],
     value: Option<&Vec<Arg>>,
 ) -> Result<(), OutOfMemory>
-    ensures { IfOk result (λ _. lexemes.new.items ≡ lexemes.old.items ++ written_as (locals_syms names.now (option_copied value.entry))) }
+    ensures { IfOk result (λ _. Appends (locals_syms names.now (option_copied value.entry)) lexemes.old lexemes.new) }
 {
     push_key(lexemes, TokenMark::Local)?;
     push_args(lexemes, names)?;
@@ -49,27 +49,27 @@ pub fn push_local(
 }
 
 /// Appends an assignment.
-pub fn push_assign(
+fn push_assign(
     lexemes: &mut Vec<Lexeme>,
     target: &Arg,
     sign: Sign,
     value: &[Arg],
 ) -> Result<(), OutOfMemory>
-    ensures { IfOk result (λ _. lexemes.new.items ≡ lexemes.old.items ++ written_as (arg_syms target.now ++ set_syms (sign_mark sign) (args_syms value.now))) }
+    ensures { IfOk result (λ _. Appends (arg_syms target.now ++ set_syms (sign_mark sign) (args_syms value.now)) lexemes.old lexemes.new) }
 {
     push_arg(lexemes, target)?;
     push_set(lexemes, sign_mark(sign), value)
 }
 
 /// Appends an assignment on targets.
-pub fn push_assign_on(
+fn push_assign_on(
     lexemes: &mut Vec<Lexeme>,
     target: &Arg,
     on: &[Arg],
     sign: Sign,
     value: &[Arg],
 ) -> Result<(), OutOfMemory>
-    ensures { IfOk result (λ _. lexemes.new.items ≡ lexemes.old.items ++ written_as (assign_on_syms target.now on.now sign value.now)) }
+    ensures { IfOk result (λ _. Appends (assign_on_syms target.now on.now sign value.now) lexemes.old lexemes.new) }
 {
     push_arg(lexemes, target)?;
     push_key(lexemes, TokenMark::On)?;
@@ -99,7 +99,7 @@ fn push_modifiers(
     existing: bool,
     quietly: bool,
 ) -> Result<(), OutOfMemory>
-    ensures { IfOk result (λ _. lexemes.new.items ≡ lexemes.old.items ++ written_as (Heads false false false together existing quietly ∷ [])) }
+    ensures { IfOk result (λ _. Appends (Heads false false false together existing quietly ∷ []) lexemes.old lexemes.new) }
 {
     push_modifier(lexemes, together, TokenMark::Together)?;
     push_modifier(lexemes, existing, TokenMark::Existing)?;
@@ -107,7 +107,7 @@ fn push_modifiers(
 }
 
 /// Appends an `actions`.
-pub fn push_actions(
+fn push_actions(
     lexemes: &mut Vec<Lexeme>,
     name: &Text,
     together: bool,
@@ -115,7 +115,7 @@ pub fn push_actions(
     quietly: bool,
     body: &Text,
 ) -> Result<(), OutOfMemory>
-    ensures { IfOk result (λ _. lexemes.new.items ≡ lexemes.old.items ++ written_as (actions_syms name.now together existing quietly body.now)) }
+    ensures { IfOk result (λ _. Appends (actions_syms name.now together existing quietly body.now) lexemes.old lexemes.new) }
 {
     push_key(lexemes, TokenMark::Actions)?;
     push_modifiers(lexemes, together, existing, quietly)?;
@@ -126,14 +126,41 @@ pub fn push_actions(
 }
 
 /// Appends a call.
-pub fn push_call(
-    lexemes: &mut Vec<Lexeme>,
-    head: &Arg,
-    lists: &[Vec<Arg>],
-) -> Result<(), OutOfMemory>
-    ensures { IfOk result (λ _. lexemes.new.items ≡ lexemes.old.items ++ written_as (arg_syms head.now ++ (lists_syms lists.now ++ Key marks.Semicolon ∷ []))) }
+fn push_call(lexemes: &mut Vec<Lexeme>, head: &Arg, lists: &[Vec<Arg>]) -> Result<(), OutOfMemory>
+    ensures { IfOk result (λ _. Appends (arg_syms head.now ++ (lists_syms lists.now ++ Key marks.Semicolon ∷ [])) lexemes.old lexemes.new) }
 {
     push_arg(lexemes, head)?;
     push_lists(lexemes, lists)?;
     push_key(lexemes, TokenMark::Semicolon)
+}
+
+/// Appends a statement that holds no other statement, and nothing for one that does.
+pub fn push_simple(lexemes: &mut Vec<Lexeme>, form: &Form) -> Result<(), OutOfMemory>
+    ensures { IfOk result (λ _. Appends (simple_syms form.now) lexemes.old lexemes.new) }
+{
+    match form {
+        Form::Local { names, value } => push_local(lexemes, names, value.as_ref()),
+        Form::Assign {
+            target,
+            sign,
+            value,
+        } => push_assign(lexemes, target, *sign, value),
+        Form::AssignOn {
+            target,
+            on,
+            sign,
+            value,
+        } => push_assign_on(lexemes, target, on, *sign, value),
+        Form::Include(names) => push_set(lexemes, TokenMark::Include, names),
+        Form::Return(value) => push_set(lexemes, TokenMark::Return, value),
+        Form::Actions {
+            name,
+            together,
+            existing,
+            quietly,
+            body,
+        } => push_actions(lexemes, name, *together, *existing, *quietly, body),
+        Form::Call { head, lists } => push_call(lexemes, head, lists),
+        _ => Ok(()),
+    }
 }

@@ -1,15 +1,15 @@
 //! The lexemes of statements.
-ghost use Rattle.std.specs.Prelude.{◌≡◌, ◌++◌, ◌∷◌, IfOk};
+ghost use Rattle.std.specs.Prelude.{◌++◌, ◌∷◌, IfOk};
 ghost use Rattle.jam_grammar.specs.declared.mark.TokenMark.TheVariants as marks;
 ghost use Rattle.jam_grammar.specs.Spelling.{Key, arg_syms, args_syms, braced, block_syms, form_syms, other_syms, only, is_if, case_syms, cases_syms};
 ghost use Rattle.jam_grammar.specs.Trees.{form_tree};
-ghost use Rattle.jam_printer.specs.Lexemes.{written_as, if_syms, for_syms, while_syms, rule_syms};
+ghost use Rattle.jam_printer.specs.Lexemes.{Appends, if_syms, for_syms, while_syms, rule_syms};
 
 use crate::args::{push_arg, push_args};
 use crate::exprs::push_expr;
 use crate::lexemes::{push_key, push_word};
 use crate::params::push_params;
-use crate::simple::{push_actions, push_assign, push_assign_on, push_call, push_local, push_set};
+use crate::simple::push_simple;
 use b2_base::fault::OutOfMemory;
 use b2_base::text::Text;
 use jam_grammar::mark::TokenMark;
@@ -19,7 +19,7 @@ use jam_spelling::lexeme::Lexeme;
 /// Appends a block in braces.
 #[cycle(stmts)]
 fn push_block(lexemes: &mut Vec<Lexeme>, block: &Block) -> Result<(), OutOfMemory>
-    ensures { IfOk result (λ _. lexemes.new.items ≡ lexemes.old.items ++ written_as (braced (block_syms block.now))) }
+    ensures { IfOk result (λ _. Appends (braced (block_syms block.now)) lexemes.old lexemes.new) }
 {
     push_key(lexemes, TokenMark::BraceOpen)?;
     push_stmts(lexemes, block)?;
@@ -29,7 +29,7 @@ fn push_block(lexemes: &mut Vec<Lexeme>, block: &Block) -> Result<(), OutOfMemor
 /// Appends the statements of a block.
 #[cycle(stmts)]
 pub fn push_stmts(lexemes: &mut Vec<Lexeme>, block: &Block) -> Result<(), OutOfMemory>
-    ensures { IfOk result (λ _. lexemes.new.items ≡ lexemes.old.items ++ written_as (block_syms block.now)) }
+    ensures { IfOk result (λ _. Appends (block_syms block.now) lexemes.old lexemes.new) }
 {
     for stmt in &block.stmts {
         push_stmt(lexemes, stmt)?;
@@ -40,24 +40,10 @@ pub fn push_stmts(lexemes: &mut Vec<Lexeme>, block: &Block) -> Result<(), OutOfM
 /// Appends a statement.
 #[cycle(stmts)]
 fn push_stmt(lexemes: &mut Vec<Lexeme>, stmt: &Stmt) -> Result<(), OutOfMemory>
-    ensures { IfOk result (λ _. lexemes.new.items ≡ lexemes.old.items ++ written_as (form_syms stmt.now.form)) }
+    ensures { IfOk result (λ _. Appends (form_syms stmt.now.form) lexemes.old lexemes.new) }
 {
     match &stmt.form {
         Form::Braces(block) => push_block(lexemes, block),
-        Form::Local { names, value } => push_local(lexemes, names, value.as_ref()),
-        Form::Assign {
-            target,
-            sign,
-            value,
-        } => push_assign(lexemes, target, *sign, value),
-        Form::AssignOn {
-            target,
-            on,
-            sign,
-            value,
-        } => push_assign_on(lexemes, target, on, *sign, value),
-        Form::Include(names) => push_set(lexemes, TokenMark::Include, names),
-        Form::Return(value) => push_set(lexemes, TokenMark::Return, value),
         Form::If { test, then, other } => {
             push_if(lexemes, test, then)?;
             push_other(lexemes, other)
@@ -76,22 +62,15 @@ fn push_stmt(lexemes: &mut Vec<Lexeme>, stmt: &Stmt) -> Result<(), OutOfMemory>
             params,
             block,
         } => push_rule(lexemes, name, params, block),
-        Form::Actions {
-            name,
-            together,
-            existing,
-            quietly,
-            body,
-        } => push_actions(lexemes, name, *together, *existing, *quietly, body),
         Form::On { target, stmt } => push_on(lexemes, target, stmt),
-        Form::Call { head, lists } => push_call(lexemes, head, lists),
+        _ => push_simple(lexemes, &stmt.form),
     }
 }
 
 /// Appends an `if` up to the end of its block.
 #[cycle(stmts)]
 fn push_if(lexemes: &mut Vec<Lexeme>, test: &Expr, block: &Block) -> Result<(), OutOfMemory>
-    ensures { IfOk result (λ _. lexemes.new.items ≡ lexemes.old.items ++ written_as (if_syms test.now block.now)) }
+    ensures { IfOk result (λ _. Appends (if_syms test.now block.now) lexemes.old lexemes.new) }
 {
     push_key(lexemes, TokenMark::If)?;
     push_expr(lexemes, test)?;
@@ -101,7 +80,7 @@ fn push_if(lexemes: &mut Vec<Lexeme>, test: &Expr, block: &Block) -> Result<(), 
 /// Appends what follows on an `if`.
 #[cycle(stmts)]
 fn push_other(lexemes: &mut Vec<Lexeme>, other: &Other) -> Result<(), OutOfMemory>
-    ensures { IfOk result (λ _. lexemes.new.items ≡ lexemes.old.items ++ written_as (other_syms other.now)) }
+    ensures { IfOk result (λ _. Appends (other_syms other.now) lexemes.old lexemes.new) }
 {
     match other {
         Other::Nothing => Ok(()),
@@ -119,7 +98,7 @@ fn push_other(lexemes: &mut Vec<Lexeme>, other: &Other) -> Result<(), OutOfMemor
 /// Appends the `if` after an `else`; no source gives another statement there.
 #[cycle(stmts)]
 fn push_else_if(lexemes: &mut Vec<Lexeme>, stmt: &Stmt) -> Result<(), OutOfMemory>
-    ensures { IfOk result (λ _. lexemes.new.items ≡ lexemes.old.items ++ written_as (only (is_if (form_tree stmt.now.form)) (form_syms stmt.now.form))) }
+    ensures { IfOk result (λ _. Appends (only (is_if (form_tree stmt.now.form)) (form_syms stmt.now.form)) lexemes.old lexemes.new) }
 {
     match &stmt.form {
         Form::If { .. } => push_stmt(lexemes, stmt),
@@ -135,7 +114,7 @@ fn push_for(
     items: &[Arg],
     block: &Block,
 ) -> Result<(), OutOfMemory>
-    ensures { IfOk result (λ _. lexemes.new.items ≡ lexemes.old.items ++ written_as (for_syms local name.now items.now block.now)) }
+    ensures { IfOk result (λ _. Appends (for_syms local name.now items.now block.now) lexemes.old lexemes.new) }
 {
     push_key(lexemes, TokenMark::For)?;
     if local {
@@ -149,7 +128,7 @@ fn push_for(
 
 #[cycle(stmts)]
 fn push_while(lexemes: &mut Vec<Lexeme>, test: &Expr, block: &Block) -> Result<(), OutOfMemory>
-    ensures { IfOk result (λ _. lexemes.new.items ≡ lexemes.old.items ++ written_as (while_syms test.now block.now)) }
+    ensures { IfOk result (λ _. Appends (while_syms test.now block.now) lexemes.old lexemes.new) }
 {
     push_key(lexemes, TokenMark::While)?;
     push_expr(lexemes, test)?;
@@ -158,7 +137,7 @@ fn push_while(lexemes: &mut Vec<Lexeme>, test: &Expr, block: &Block) -> Result<(
 
 #[cycle(stmts)]
 fn push_switch(lexemes: &mut Vec<Lexeme>, value: &[Arg], cases: &[Case]) -> Result<(), OutOfMemory>
-    ensures { IfOk result (λ _. lexemes.new.items ≡ lexemes.old.items ++ written_as (Key marks.Switch ∷ (args_syms value.now ++ braced (cases_syms cases.now)))) }
+    ensures { IfOk result (λ _. Appends (Key marks.Switch ∷ (args_syms value.now ++ braced (cases_syms cases.now))) lexemes.old lexemes.new) }
 {
     push_key(lexemes, TokenMark::Switch)?;
     push_args(lexemes, value)?;
@@ -170,7 +149,7 @@ fn push_switch(lexemes: &mut Vec<Lexeme>, value: &[Arg], cases: &[Case]) -> Resu
 /// Appends the cases of a `switch`.
 #[cycle(stmts)]
 fn push_cases(lexemes: &mut Vec<Lexeme>, cases: &[Case]) -> Result<(), OutOfMemory>
-    ensures { IfOk result (λ _. lexemes.new.items ≡ lexemes.old.items ++ written_as (cases_syms cases.now)) }
+    ensures { IfOk result (λ _. Appends (cases_syms cases.now) lexemes.old lexemes.new) }
 {
     for case in cases {
         push_case(lexemes, case)?;
@@ -181,7 +160,7 @@ fn push_cases(lexemes: &mut Vec<Lexeme>, cases: &[Case]) -> Result<(), OutOfMemo
 /// Appends a case of a `switch`.
 #[cycle(stmts)]
 fn push_case(lexemes: &mut Vec<Lexeme>, case: &Case) -> Result<(), OutOfMemory>
-    ensures { IfOk result (λ _. lexemes.new.items ≡ lexemes.old.items ++ written_as (case_syms case.now)) }
+    ensures { IfOk result (λ _. Appends (case_syms case.now) lexemes.old lexemes.new) }
 {
     push_key(lexemes, TokenMark::Case)?;
     push_word(lexemes, &case.pattern)?;
@@ -191,7 +170,7 @@ fn push_case(lexemes: &mut Vec<Lexeme>, case: &Case) -> Result<(), OutOfMemory>
 
 #[cycle(stmts)]
 fn push_module(lexemes: &mut Vec<Lexeme>, name: &[Arg], block: &Block) -> Result<(), OutOfMemory>
-    ensures { IfOk result (λ _. lexemes.new.items ≡ lexemes.old.items ++ written_as (Key marks.Module ∷ (args_syms name.now ++ braced (block_syms block.now)))) }
+    ensures { IfOk result (λ _. Appends (Key marks.Module ∷ (args_syms name.now ++ braced (block_syms block.now))) lexemes.old lexemes.new) }
 {
     push_key(lexemes, TokenMark::Module)?;
     push_args(lexemes, name)?;
@@ -205,7 +184,7 @@ fn push_rule(
     params: &[Vec<Param>],
     block: &Block,
 ) -> Result<(), OutOfMemory>
-    ensures { IfOk result (λ _. lexemes.new.items ≡ lexemes.old.items ++ written_as (rule_syms name.now params.now block.now)) }
+    ensures { IfOk result (λ _. Appends (rule_syms name.now params.now block.now) lexemes.old lexemes.new) }
 {
     push_key(lexemes, TokenMark::Rule)?;
     push_word(lexemes, name)?;
@@ -216,7 +195,7 @@ fn push_rule(
 /// Appends an `on` before a statement.
 #[cycle(stmts)]
 fn push_on(lexemes: &mut Vec<Lexeme>, target: &Arg, stmt: &Stmt) -> Result<(), OutOfMemory>
-    ensures { IfOk result (λ _. lexemes.new.items ≡ lexemes.old.items ++ written_as (Key marks.On ∷ (arg_syms target.now ++ form_syms stmt.now.form))) }
+    ensures { IfOk result (λ _. Appends (Key marks.On ∷ (arg_syms target.now ++ form_syms stmt.now.form)) lexemes.old lexemes.new) }
 {
     push_key(lexemes, TokenMark::On)?;
     push_arg(lexemes, target)?;
