@@ -21,7 +21,6 @@ use Rattle.b2_prepare.specs.Laws.{OneMeaning}
 use Rattle.b2_prepare.specs.Meaning.{Refusal, load_setting, load_turns, project_with, Refuses, IsRefusedInGeneration, Means}
 use Rattle.b2_prepare.specs.Preparing.{IfRefusal, call_of}
 use Rattle.b2_prepare.specs.Refusals.{refusal_of}
-use Rattle.b2_prepare.specs.declared.refusal.PlanRefusal.TheVariants as refusals
 use Rattle.b2_generate.specs.Faults.{Fault as Generating}
 use Rattle.b2_generate.specs.Laws.{OnePlan}
 use Rattle.b2_generate.specs.Planning.{Plans}
@@ -39,6 +38,8 @@ use Rattle.b2_props.specs.Requests.{request_sets}
 use Rattle.b2_props.specs.Words.{target_words}
 use Rattle.b2_refusals.specs.declared.fault.Fault.{Fault}
 use Rattle.b2_refusals.specs.declared.fault.Fault.TheVariants as faults
+use Rattle.b2_refusals.specs.declared.fault.PlanRefusal.{PlanRefusal}
+use Rattle.b2_refusals.specs.declared.fault.PlanRefusal.TheVariants as refusals
 use Rattle.b2_top.specs.RefusalCauses.{IsOfPattern, HasCause, IsPatternRefused}
 use Rattle.b2_top.specs.declared.answer.Answer.{Answer}
 use Rattle.b2_top.specs.declared.answer.Answer.TheVariants as answers
@@ -158,7 +159,7 @@ module _ (one_reading : OneReading) (one_meaning : OneMeaning) (one_ending : One
   prepared_not rest lines pattern None h = not_in_generation lines rest h
   prepared_not rest lines pattern (Some why) h = not_meant h.0 pattern lines why h.1
 
-  load_not : (fault : LoadFault) (lines : List Text) → IsOfPattern (faults.Load fault) → HasCause disk [] lines (faults.Load fault) → ⊥
+  load_not : (fault : LoadFault) (lines : List Text) → IsOfPattern (faults.Plan (refusals.Load fault)) → HasCause disk [] lines (faults.Plan (refusals.Load fault)) → ⊥
   load_not loading.NoJamroot lines p h = none_some p.0 p.1
   load_not (loading.NoJamfile dir) lines p h = none_some p.0 p.1
   load_not (loading.TooBig path size) lines p h = none_some p.0 p.1
@@ -172,7 +173,7 @@ module _ (one_reading : OneReading) (one_meaning : OneMeaning) (one_ending : One
   load_not loading.Host lines p h = none_some p.0 p.1
   load_not loading.OutOfMemory lines p h = none_some p.0 p.1
 
-  choice_not : (fault : ChoiceFault EvalFault) (lines : List Text) → IsOfPattern (faults.Gen (generating.NotChosen fault)) → HasCause disk [] lines (faults.Gen (generating.NotChosen fault)) → ⊥
+  choice_not : (fault : ChoiceFault EvalFault) (lines : List Text) → IsOfPattern (faults.Plan (refusals.Generation (generating.NotChosen fault))) → HasCause disk [] lines (faults.Plan (refusals.Generation (generating.NotChosen fault))) → ⊥
   choice_not (choosing.NoAlternative target set) lines p h = none_some p.0 p.1
   choice_not (choosing.AmbiguousAlternative target set i k) lines p h = none_some p.0 p.1
   choice_not (choosing.Unstable target first second) lines p h = none_some p.0 p.1
@@ -180,7 +181,7 @@ module _ (one_reading : OneReading) (one_meaning : OneMeaning) (one_ending : One
   choice_not (choosing.Eval fault) lines p h = prepared_not fault lines None (refusal_of (refusals.Generation (generating.NotChosen (choosing.Eval fault)))) h
   choice_not choosing.OutOfMemory lines p h = none_some p.0 p.1
 
-  making_not : (fault : MakingFault EvalFault) (lines : List Text) → IsOfPattern (faults.Gen (generating.NotMade fault)) → HasCause disk [] lines (faults.Gen (generating.NotMade fault)) → ⊥
+  making_not : (fault : MakingFault EvalFault) (lines : List Text) → IsOfPattern (faults.Plan (refusals.Generation (generating.NotMade fault))) → HasCause disk [] lines (faults.Plan (refusals.Generation (generating.NotMade fault))) → ⊥
   making_not (making.NoChain from to) lines p h = none_some p.0 p.1
   making_not (making.TwoChains from to first second) lines p h = none_some p.0 p.1
   making_not (making.PathClash path) lines p h = none_some p.0 p.1
@@ -189,7 +190,7 @@ module _ (one_reading : OneReading) (one_meaning : OneMeaning) (one_ending : One
   making_not (making.Eval fault) lines p h = prepared_not fault lines None (refusal_of (refusals.Generation (generating.NotMade (making.Eval fault)))) h
   making_not making.OutOfMemory lines p h = none_some p.0 p.1
 
-  generation_not : (fault : GenFault EvalFault) (lines : List Text) → IsOfPattern (faults.Gen fault) → HasCause disk [] lines (faults.Gen fault) → ⊥
+  generation_not : (fault : GenFault EvalFault) (lines : List Text) → IsOfPattern (faults.Plan (refusals.Generation fault)) → HasCause disk [] lines (faults.Plan (refusals.Generation fault)) → ⊥
   generation_not (generating.NoTarget name) lines p h = none_some p.0 p.1
   generation_not (generating.TargetCycle targets) lines p h = none_some p.0 p.1
   generation_not (generating.UsageConflict target feature first second) lines p h = none_some p.0 p.1
@@ -197,10 +198,13 @@ module _ (one_reading : OneReading) (one_meaning : OneMeaning) (one_ending : One
   generation_not (generating.NotMade fault) lines p h = making_not fault lines p h
   generation_not generating.OutOfMemory lines p h = none_some p.0 p.1
 
+  plan_not : (why : PlanRefusal) (lines : List Text) → IsOfPattern (faults.Plan why) → HasCause disk [] lines (faults.Plan why) → ⊥
+  plan_not (refusals.Load fault) lines p h = load_not fault lines p h
+  plan_not (refusals.Request fault) lines p h = none_some p.0 p.1
+  plan_not (refusals.Generation fault) lines p h = generation_not fault lines p h
+
   refused_not : (fault : Fault) (lines : List Text) → IsOfPattern fault → HasCause disk [] lines fault → ⊥
-  refused_not (faults.Load fault) lines p h = load_not fault lines p h
-  refused_not (faults.Request fault) lines p h = none_some p.0 p.1
-  refused_not (faults.Gen fault) lines p h = generation_not fault lines p h
+  refused_not (faults.Plan why) lines p h = plan_not why lines p h
   refused_not (faults.Jam fault) lines p h = absurd h
   refused_not (faults.StepCycle list) lines p h = none_some p.0 p.1
   refused_not (faults.TooBig path size) lines p h = none_some p.0 p.1

@@ -22,6 +22,7 @@ use Rattle.b2_making.specs.declared.fault.MakingFault.TheVariants as making
 use Rattle.b2_project_walk.specs.declared.fault.LoadFault.{LoadFault}
 use Rattle.b2_project_walk.specs.declared.fault.LoadFault.TheVariants as loading
 use Rattle.b2_project_walk.specs.Faults.{IsWhole as IsWholeLoad}
+use Rattle.b2_refusals.proofs.FailuresAreRefusals.{loads_are_refused}
 use Rattle.b2_project_walk.specs.Finding.{CountsFault as CountsLoad}
 use Rattle.b2_generate.specs.declared.fault.GenFault.{GenFault}
 use Rattle.b2_generate.specs.declared.fault.GenFault.TheVariants as generating
@@ -32,8 +33,8 @@ use Rattle.b2_generate.specs.Planning.{Plans}
 use Rattle.b2_request_plan.specs.Plans.{IsPlanned}
 use Rattle.b2_generate.specs.ToldOutcomes.{unless, fault_of, IfFault, IsKnown, is_eval, is_memory}
 use Rattle.b2_own_text.specs.Faults.{is_host_fault, is_out_of_memory}
-use Rattle.b2_prepare.specs.declared.refusal.PlanRefusal.{PlanRefusal}
-use Rattle.b2_prepare.specs.declared.refusal.PlanRefusal.TheVariants as refusals
+use Rattle.b2_refusals.specs.declared.fault.PlanRefusal.{PlanRefusal}
+use Rattle.b2_refusals.specs.declared.fault.PlanRefusal.TheVariants as refusals
 use Rattle.b2_prepare.specs.Meaning.{of_generation}
 use Rattle.b2_prepare.specs.Refusals.{or_stop, stop_of_load, stop_of_request, stop_of_choice, stop_of_making}
 use Rattle.b2_prepare.specs.Preparing.{IfRefusal, Tells, IsWhole, CountsStop, Counts}
@@ -45,14 +46,14 @@ use Rattle.b2_prepare.proofs.FaultsAreToldAsAnswers.{OfLine, generation_told}
 pub load_whole : (fault : LoadFault) → IsWholeLoad fault → IsWhole (stop_of_load fault)
 load_whole loading.Host whole = tt
 load_whole loading.OutOfMemory whole = tt
-load_whole loading.NoJamroot whole = whole
-load_whole (loading.NoJamfile dir) whole = whole
-load_whole (loading.TooBig path size) whole = whole
-load_whole (loading.Lex path fault) whole = whole
-load_whole (loading.Syntax path fault) whole = whole
-load_whole (loading.Eval fault) whole = whole
-load_whole (loading.Declaration path rule line) whole = whole
-load_whole (loading.Feature path line fault) whole = whole
+load_whole loading.NoJamroot whole = tt
+load_whole (loading.NoJamfile dir) whole = tt
+load_whole (loading.TooBig path size) whole = tt
+load_whole (loading.Lex path fault) whole = loads_are_refused (loading.Lex path fault) whole (λ is. cc) (λ is. cc)
+load_whole (loading.Syntax path fault) whole = loads_are_refused (loading.Syntax path fault) whole (λ is. cc) (λ is. cc)
+load_whole (loading.Eval fault) whole = loads_are_refused (loading.Eval fault) whole (λ is. cc) (λ is. cc)
+load_whole (loading.Declaration path rule line) whole = tt
+load_whole (loading.Feature path line fault) whole = loads_are_refused (loading.Feature path line fault) whole (λ is. cc) (λ is. cc)
 
 pub load_counts : (fault : LoadFault) (from to : Outside) → CountsLoad fault from to → CountsStop (stop_of_load fault) from to
 load_counts loading.Host from to h = h
@@ -76,9 +77,9 @@ asked_told Rest l words (asking.Conflict word) h = (refl, h)
 asked_told Rest l words asking.OutOfMemory h = tt
 
 pub asked_whole : (fault : RequestFault) → IsWhole (stop_of_request fault)
-asked_whole (asking.UnknownWord word) = tt
-asked_whole (asking.UnknownValue word) = tt
-asked_whole (asking.Conflict word) = tt
+asked_whole (asking.UnknownWord word) = λ is. cc
+asked_whole (asking.UnknownValue word) = λ is. cc
+asked_whole (asking.Conflict word) = λ is. cc
 asked_whole asking.OutOfMemory = tt
 
 pub asked_counts : (fault : RequestFault) (o : Outside) → CountsStop (stop_of_request fault) o o

@@ -15,12 +15,13 @@ use Rattle.b2_generate.specs.declared.fault.GenFault.TheVariants as generating
 use Rattle.b2_request_plan.specs.declared.planned.Planned.{Planned as Made}
 use Rattle.b2_generate.specs.Planning.{Planned}
 use Rattle.b2_request_plan.specs.Plans.{seen}
-use Rattle.b2_prepare.specs.declared.refusal.PlanRefusal.{PlanRefusal}
-use Rattle.b2_prepare.specs.declared.refusal.PlanRefusal.TheVariants as refusals
+use Rattle.b2_refusals.specs.declared.fault.PlanRefusal.{PlanRefusal}
+use Rattle.b2_refusals.specs.declared.fault.PlanRefusal.TheVariants as refusals
 use Rattle.b2_prepare.specs.declared.refusal.PlanStop.{PlanStop}
 use Rattle.b2_prepare.specs.declared.refusal.PlanStop.TheVariants.{Refused, HostInLoad, HostInGeneration, OutOfMemory}
 use Rattle.b2_prepare.specs.Meaning.{Refusal, HasLoaded, BeginLoad, IsRefusedInGeneration, AsksTests, Means}
-use Rattle.b2_prepare.specs.Refusals.{refusal_of, pattern_of, IsWholeRefusal}
+use Rattle.b2_prepare.specs.Refusals.{refusal_of, pattern_of}
+use Rattle.b2_refusals.specs.Wholes.{IsPlanRefusal}
 
 -- `Holds` of a refusal as data; `Rest` where there is none.
 abbrev pub IfRefusal : Type 0 → Option Refusal → (Refusal → Type 0) → Type 0
@@ -80,7 +81,7 @@ LinesTold disk words lines (Err OutOfMemory) = Unit {0}
 
 -- no fault of the host and no out of memory is within a refusal
 abbrev pub IsWhole : PlanStop → Type 0
-IsWhole (Refused why) = IsWholeRefusal why
+IsWhole (Refused why) = IsPlanRefusal why
 IsWhole HostInLoad = Unit {0}
 IsWhole HostInGeneration = Unit {0}
 IsWhole OutOfMemory = Unit {0}

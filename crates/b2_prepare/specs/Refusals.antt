@@ -2,7 +2,6 @@
 use Rattle.std.specs.Prelude.{Option, Some, None}
 use Rattle.std.specs.Option.{option_map}
 use Rattle.jam_journal.specs.Tables.{Text}
-use Rattle.jam_effects.specs.Causes.{HoldsNoMemory}
 use Rattle.jam_effects.specs.declared.fault.EvalFault.{EvalFault}
 use Rattle.jam_effects.specs.declared.fault.EvalFault.TheVariants as evaluating
 use Rattle.b2_props.specs.declared.request_fault.RequestFault.{RequestFault}
@@ -13,13 +12,13 @@ use Rattle.b2_making.specs.declared.fault.MakingFault.{MakingFault}
 use Rattle.b2_making.specs.declared.fault.MakingFault.TheVariants as making
 use Rattle.b2_project_walk.specs.declared.fault.LoadFault.{LoadFault}
 use Rattle.b2_project_walk.specs.declared.fault.LoadFault.TheVariants as loading
-use Rattle.b2_project_walk.specs.Faults.{IsWhole, refused_by, refusal_of as load_refusal}
+use Rattle.b2_project_walk.specs.Faults.{refused_by, refusal_of as load_refusal}
 use Rattle.b2_generate.specs.declared.fault.GenFault.{GenFault}
 use Rattle.b2_generate.specs.declared.fault.GenFault.TheVariants as generating
 use Rattle.b2_generate.specs.ToldOutcomes.{fault_of}
 use Rattle.b2_own_text.specs.Faults.{is_host_fault, is_out_of_memory}
-use Rattle.b2_prepare.specs.declared.refusal.PlanRefusal.{PlanRefusal}
-use Rattle.b2_prepare.specs.declared.refusal.PlanRefusal.TheVariants as refusals
+use Rattle.b2_refusals.specs.declared.fault.PlanRefusal.{PlanRefusal}
+use Rattle.b2_refusals.specs.declared.fault.PlanRefusal.TheVariants as refusals
 use Rattle.b2_prepare.specs.declared.refusal.PlanStop.{PlanStop}
 use Rattle.b2_prepare.specs.declared.refusal.PlanStop.TheVariants as stops
 use Rattle.b2_prepare.specs.Meaning as meaning
@@ -74,40 +73,3 @@ abbrev pub pattern_of : PlanRefusal → Option Text
 pattern_of (refusals.Load fault) = refused_by fault
 pattern_of (refusals.Request fault) = None
 pattern_of (refusals.Generation fault) = None
-
--- ---- no fault of the host and no out of memory is within a refusal
-
-abbrev pub IsAt : EvalFault → Type 0
-IsAt evaluating.Host = ⊥
-IsAt evaluating.OutOfMemory = ⊥
-IsAt (evaluating.At path line cause) = HoldsNoMemory (evaluating.At path line cause)
-
-abbrev pub IsWholeLoad : LoadFault → Type 0
-IsWholeLoad loading.Host = ⊥
-IsWholeLoad loading.OutOfMemory = ⊥
-IsWholeLoad fault = IsWhole fault
-
-abbrev pub IsWholeRequest : RequestFault → Type 0
-IsWholeRequest asking.OutOfMemory = ⊥
-IsWholeRequest fault = Unit {0}
-
-abbrev pub IsWholeChoice : ChoiceFault EvalFault → Type 0
-IsWholeChoice (choosing.Eval fault) = IsAt fault
-IsWholeChoice choosing.OutOfMemory = ⊥
-IsWholeChoice fault = Unit {0}
-
-abbrev pub IsWholeMaking : MakingFault EvalFault → Type 0
-IsWholeMaking (making.Eval fault) = IsAt fault
-IsWholeMaking making.OutOfMemory = ⊥
-IsWholeMaking fault = Unit {0}
-
-abbrev pub IsWholeGeneration : GenFault EvalFault → Type 0
-IsWholeGeneration (generating.NotChosen fault) = IsWholeChoice fault
-IsWholeGeneration (generating.NotMade fault) = IsWholeMaking fault
-IsWholeGeneration generating.OutOfMemory = ⊥
-IsWholeGeneration fault = Unit {0}
-
-abbrev pub IsWholeRefusal : PlanRefusal → Type 0
-IsWholeRefusal (refusals.Load fault) = IsWholeLoad fault
-IsWholeRefusal (refusals.Request fault) = IsWholeRequest fault
-IsWholeRefusal (refusals.Generation fault) = IsWholeGeneration fault

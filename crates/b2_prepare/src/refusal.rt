@@ -7,18 +7,8 @@ use b2_generate::fault::GenFault;
 use b2_making::fault::MakingFault;
 use b2_project::load::LoadFault;
 use b2_props::request_fault::RequestFault;
+use b2_refusals::fault::PlanRefusal;
 use jam_effects::fault::EvalFault;
-
-/// The first fault of files and words.
-#[derive(Drop)]
-pub enum PlanRefusal {
-    /// The projects are not loaded.
-    Load(LoadFault),
-    /// The request is not read.
-    Request(RequestFault),
-    /// What is asked for has no plan.
-    Generation(GenFault<EvalFault>),
-}
 
 /// Why there is no plan.
 #[derive(Drop)]

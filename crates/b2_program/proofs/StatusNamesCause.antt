@@ -33,12 +33,8 @@ use Rattle.b2_program.proofs.StatusTellsAnswer.{status_at_most, is_ok, is_failed
 
 -- a refusal from there is whole
 whole_of : (fault : Fault) (source : Source) → IsWholeFor fault source → IsWhole fault
-whole_of (faults.Load fault) project h = h
-whole_of (faults.Load fault) (jam_file file) h = absurd h
-whole_of (faults.Request fault) project h = h
-whole_of (faults.Request fault) (jam_file file) h = absurd h
-whole_of (faults.Gen fault) project h = h
-whole_of (faults.Gen fault) (jam_file file) h = absurd h
+whole_of (faults.Plan why) project h = h
+whole_of (faults.Plan why) (jam_file file) h = absurd h
 whole_of (faults.Jam fault) project h = absurd h
 whole_of (faults.Jam fault) (jam_file file) h = h
 whole_of (faults.StepCycle list) source h = h

@@ -6,14 +6,12 @@ use Rattle.b2_props.specs.Sets.{Pair}
 use Rattle.b2_refusals.specs.declared.fault.Fault.{Fault}
 use Rattle.b2_refusals.specs.declared.fault.Fault.TheVariants as faults
 use Rattle.b2_refusals.specs.Pieces.{size_text, after_spaces}
-use Rattle.b2_refusals.specs.Texts.{load_text, request_text, gen_text, jam_text}
+use Rattle.b2_refusals.specs.Texts.{plan_text, jam_text}
 use Rattle.b2_runs.specs.Reports.{line, start_line, cycle_text}
 
 -- the text of a refusal, where these are the steps of the plan
 abbrev pub fault_text : List Step → Fault → List ℕ
-fault_text steps (faults.Load fault) = load_text fault
-fault_text steps (faults.Request fault) = request_text fault
-fault_text steps (faults.Gen fault) = gen_text fault
+fault_text steps (faults.Plan why) = plan_text why
 fault_text steps (faults.Jam fault) = jam_text fault
 fault_text steps (faults.StepCycle list) = codes "step cycle: " ++ cycle_text steps list
 fault_text steps (faults.TooBig path size) = size_text path size

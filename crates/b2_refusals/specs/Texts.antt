@@ -28,6 +28,8 @@ use Rattle.jam_parser.specs.declared.fault.SyntaxFault.{SyntaxFault}
 use Rattle.jam_parser.specs.declared.fault.SyntaxFault.TheVariants as parsing
 use Rattle.jam_patterns.specs.declared.native_fault.NativeFault.{NativeFault}
 use Rattle.jam_patterns.specs.declared.native_fault.NativeFault.TheVariants as natives
+use Rattle.b2_refusals.specs.declared.fault.PlanRefusal.{PlanRefusal}
+use Rattle.b2_refusals.specs.declared.fault.PlanRefusal.TheVariants as refusals
 use Rattle.b2_refusals.specs.Pieces.{at_line, size_text, steps_text, joined, with_arrows, props_text}
 
 -- ---- files
@@ -136,6 +138,13 @@ gen_text (generating.UsageConflict target feature first second) = codes "usage c
 gen_text (generating.NotChosen fault) = choice_text fault
 gen_text (generating.NotMade fault) = making_text fault
 gen_text generating.OutOfMemory = []
+
+-- ---- no plan
+
+abbrev pub plan_text : PlanRefusal → List ℕ
+plan_text (refusals.Load fault) = load_text fault
+plan_text (refusals.Request fault) = request_text fault
+plan_text (refusals.Generation fault) = gen_text fault
 
 -- ---- plain Jam mode
 

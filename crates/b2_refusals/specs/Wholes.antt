@@ -10,6 +10,8 @@ use Rattle.b2_generate.specs.declared.fault.GenFault.TheVariants as generating
 use Rattle.b2_props.specs.declared.request_fault.RequestFault.TheVariants as requesting
 use Rattle.b2_refusals.specs.declared.fault.Fault.{Fault}
 use Rattle.b2_refusals.specs.declared.fault.Fault.TheVariants as faults
+use Rattle.b2_refusals.specs.declared.fault.PlanRefusal.{PlanRefusal}
+use Rattle.b2_refusals.specs.declared.fault.PlanRefusal.TheVariants as refusals
 use Rattle.b2_project_walk.specs.declared.fault.LoadFault.{LoadFault}
 use Rattle.b2_project_walk.specs.declared.fault.LoadFault.TheVariants as loading
 use Rattle.jam_effects.specs.Causes.{cause_of, IsWhole as IsWholeCause}
@@ -50,6 +52,11 @@ IsGenRefusal (generating.NotChosen fault) = IsChoiceRefusal fault
 IsGenRefusal (generating.NotMade fault) = IsMakingRefusal fault
 IsGenRefusal _ = Unit {0}
 
+abbrev pub IsPlanRefusal : PlanRefusal → Type 0
+IsPlanRefusal (refusals.Load fault) = IsLoadRefusal fault
+IsPlanRefusal (refusals.Request fault) = fault ≢ requesting.OutOfMemory
+IsPlanRefusal (refusals.Generation fault) = IsGenRefusal fault
+
 abbrev pub IsJamRefusal : JamFault → Type 0
 IsJamRefusal jam.Host = ⊥
 IsJamRefusal jam.OutOfMemory = ⊥
@@ -59,8 +66,6 @@ IsJamRefusal (jam.Eval fault) = IsEvalRefusal fault
 IsJamRefusal _ = Unit {0}
 
 abbrev pub IsWhole : Fault → Type 0
-IsWhole (faults.Load fault) = IsLoadRefusal fault
-IsWhole (faults.Request fault) = fault ≢ requesting.OutOfMemory
-IsWhole (faults.Gen fault) = IsGenRefusal fault
+IsWhole (faults.Plan why) = IsPlanRefusal why
 IsWhole (faults.Jam fault) = IsJamRefusal fault
 IsWhole _ = Unit {0}

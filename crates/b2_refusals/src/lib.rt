@@ -1,4 +1,4 @@
-//! What the program writes of a refusal, and the lines of its looks at a project.
+//! What the program refuses, what it writes of a refusal, and the lines of its looks at a project.
 //!
 //! # What is proved
 //!

@@ -2,9 +2,10 @@
 ghost use Rattle.std.specs.Prelude.{◌≡◌, IfOk, string_bytes};
 ghost use Rattle.b2_refusals.specs.Lines.{fault_text, refusal_line, usage_line, table_line, text_line};
 ghost use Rattle.b2_runs.specs.Reports.{host_fault_line};
-ghost use Rattle.b2_refusals.specs.Wholes.{IsWhole};
+ghost use Rattle.b2_refusals.specs.Texts.{plan_text};
+ghost use Rattle.b2_refusals.specs.Wholes.{IsPlanRefusal, IsWhole};
 
-use crate::fault::Fault;
+use crate::fault::{Fault, PlanRefusal};
 use crate::generations::{gen_text, request_text};
 use crate::jam::jam_text;
 use crate::lists::{cycle_text, push_properties};
@@ -29,6 +30,18 @@ pub fn host_fault_line() -> &'static str
     "b2: host fault\n"
 }
 
+/// The text of files and words that have no plan.
+fn plan_text(alloc: Global, refusal: &PlanRefusal) -> Result<String, OutOfMemory>
+    requires { IsPlanRefusal refusal.now }
+    ensures { IfOk result (λ text. string_bytes text ≡ plan_text refusal.now) }
+{
+    match refusal {
+        PlanRefusal::Load(fault) => load_text(alloc, fault),
+        PlanRefusal::Request(fault) => request_text(alloc, fault),
+        PlanRefusal::Generation(fault) => gen_text(alloc, fault),
+    }
+}
+
 fn step_cycle_text(alloc: Global, steps: &[Step], list: &[u32]) -> Result<String, OutOfMemory>
     ensures { IfOk result (λ text. string_bytes text ≡ fault_text steps.now (Fault.StepCycle list.now)) }
 {
@@ -41,9 +54,7 @@ fn fault_text(alloc: Global, steps: &[Step], fault: &Fault) -> Result<String, Ou
     ensures { IfOk result (λ text. string_bytes text ≡ fault_text steps.now fault.now) }
 {
     match fault {
-        Fault::Load(fault) => load_text(alloc, fault),
-        Fault::Request(fault) => request_text(alloc, fault),
-        Fault::Gen(fault) => gen_text(alloc, fault),
+        Fault::Plan(refusal) => plan_text(alloc, refusal),
         Fault::Jam(fault) => jam_text(alloc, fault),
         Fault::StepCycle { list } => step_cycle_text(alloc, steps, list.as_slice()),
         Fault::TooBig { path, size } => size_text(alloc, path.as_str(), *size),

@@ -97,9 +97,7 @@ module _ (made : Made) (asking : Asking) (few : HasFewJobs asking) (before after
   }
 
   by_refusal : IsSeen → (fault : Fault) → RefusedFor made asking before after disk later fault → StaysStill before after ⊎ UpdateHasCome made asking (answers.Refused fault) before after disk
-  by_refusal seen (faults.Load fault) (still, cause) = inl still
-  by_refusal seen (faults.Request fault) (still, cause) = inl still
-  by_refusal seen (faults.Gen fault) (still, cause) = inl still
+  by_refusal seen (faults.Plan why) (still, cause) = inl still
   by_refusal seen (faults.Jam fault) (still, cause) = inl still
   by_refusal seen (faults.StepCycle list) built = inr (come seen (answers.Refused (faults.StepCycle list)) (step_cycle list) built (inl refl))
   by_refusal seen (faults.TooBig path size) built = inr (come seen (answers.Refused (faults.TooBig path size)) (too_big path size) built (inl refl))

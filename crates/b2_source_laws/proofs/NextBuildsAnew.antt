@@ -28,7 +28,6 @@ use Rattle.b2_explain.specs.Laws.{IsFirstPoint, CleanedIsStale}
 use Rattle.b2_generate.specs.Planning.{Planned}
 use Rattle.b2_prepare.specs.Laws.{OneMeaning}
 use Rattle.b2_prepare.specs.Meaning.{Refusal, Means}
-use Rattle.b2_prepare.specs.declared.refusal.PlanRefusal.TheVariants as refusals
 use Rattle.b2_top.specs.Askings.{IsProjectRefusal}
 use Rattle.b2_refusals.specs.declared.fault.Fault.TheVariants as faults
 use Rattle.b2_command_line.specs.Words.{Word}
@@ -179,12 +178,8 @@ module _ (one_meaning : OneMeaning) (apart_of : MeaningIsApart) (words : List Wo
         each_starts : (result : Answer) → HappenedBy made again b.before.host b.after.host later last result → IfRefused IsProjectRefusal result → Starts result
         each_starts answers.Ok h whole = let (other, also, did) = h.updated in after_ok (updated all_went h other also did)
         each_starts (answers.Failed lists) h whole = let (other, also, did) = h.updated in after_failed lists (updated (some_failed (lists_of lists)) h other also did)
-        each_starts (answers.Refused (faults.Load fault)) (still, (echoes, none)) whole =
-            λ i needed. inr (refused_for_pattern one_meaning again later found (refusals.Load fault) whole echoes none)
-        each_starts (answers.Refused (faults.Request fault)) (still, (echoes, none)) whole =
-            λ i needed. inr (refused_for_pattern one_meaning again later found (refusals.Request fault) whole echoes none)
-        each_starts (answers.Refused (faults.Gen fault)) (still, (echoes, none)) whole =
-            λ i needed. inr (refused_for_pattern one_meaning again later found (refusals.Generation fault) whole echoes none)
+        each_starts (answers.Refused (faults.Plan why)) (still, (echoes, none)) whole =
+            λ i needed. inr (refused_for_pattern one_meaning again later found why whole echoes none)
         each_starts (answers.Refused (faults.Jam fault)) (still, (echoes, none)) whole = absurd none.cause
         each_starts (answers.Refused (faults.StepCycle list)) h whole = let (other, also, did) = h.updated in after_cycle list (updated (step_cycle list) h other also did)
         each_starts (answers.Refused (faults.TooBig path size)) h whole = λ i needed. inr tt

@@ -71,9 +71,7 @@ module _ (one_meaning : OneMeaning) (made : Made) (words : List Word) (before af
   leaves plan first (answers.Failed lists) b end is meets = let (log, also, updated) = b.updated in built_leaves plan first log (failed (lists_of lists)) b is also meets updated
   leaves plan first (answers.Refused (faults.Jam fault)) b end is meets = absurd end
   leaves plan first (answers.Refused (faults.StepCycle list)) b end is meets = let (log, also, updated) = b.updated in built_leaves plan first log (step_cycle list) b is also meets updated
-  leaves plan first (answers.Refused (faults.Load fault)) b end is meets = absurd end
-  leaves plan first (answers.Refused (faults.Request fault)) b end is meets = absurd end
-  leaves plan first (answers.Refused (faults.Gen fault)) b end is meets = absurd end
+  leaves plan first (answers.Refused (faults.Plan why)) b end is meets = absurd end
   leaves plan first (answers.Refused (faults.TooBig path size)) b end is meets = absurd end
   leaves plan first answers.Usage b end is meets = absurd end
   leaves plan first answers.HostFault b end is meets = absurd end

@@ -67,9 +67,7 @@ pub record HasNoneFresh (u : Update) : Type 0 where
 -- What a refusal tells of a needed step that did not start. A step cycle left it neither settled nor failed. Else the update was cut
 -- short by a file that is too big, or there was none, since a pattern was refused though it reads as one.
 abbrev pub IsHeldBack : Update → List ChildEvent → Fault → ℕ → Type 0
-IsHeldBack u events (faults.Load fault) i = IsOfPattern (faults.Load fault)
-IsHeldBack u events (faults.Request fault) i = IsOfPattern (faults.Request fault)
-IsHeldBack u events (faults.Gen fault) i = IsOfPattern (faults.Gen fault)
+IsHeldBack u events (faults.Plan why) i = IsOfPattern (faults.Plan why)
 IsHeldBack u events (faults.Jam fault) i = ⊥
 IsHeldBack u events (faults.StepCycle list) i = IsLeft u events i
 IsHeldBack u events (faults.TooBig path size) i = ⊤

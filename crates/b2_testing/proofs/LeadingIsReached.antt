@@ -13,7 +13,7 @@ use Rattle.b2_runs.proofs.NumberHasOneStep.{place_of}
 use Rattle.b2_sched.specs.Cycles.{NeedsIn}
 use Rattle.b2_sched.specs.NumberSets.{Has}
 use Rattle.b2_sched.specs.Reaches.{Reached}
-use Rattle.b2_testing.specs.declared.pass_list.Marks.{Marks}
+use Rattle.b2_testing.specs.declared.pass_list.MarkedNumbers.{MarkedNumbers}
 use Rattle.b2_testing.specs.declared.pass_list.Judge.{Judge}
 use Rattle.b2_testing.specs.declared.verdict.Verdict.TheVariants.{Passed, Failed, NotRun}
 use Rattle.b2_testing.specs.Leading.{AreMarks, AreDependents, IsJudgeOf}
@@ -71,7 +71,7 @@ leads_to_steps steps bad few all i (on j step path k other at among makes leads)
 -- ---- the search
 
 -- the numbers from which the search begins, and all that it comes to, have lists
-pub first_within : (steps : List Step) (numbers start : List ℕ) (given dependents : List (List ℕ)) (size : ℕ) (marks : Marks) → size ≡ length steps + 1 → AreMarks size numbers marks → start ≡ marks.numbers.items → given ≡ dependents → AreDependents steps dependents
+pub first_within : (steps : List Step) (numbers start : List ℕ) (given dependents : List (List ℕ)) (size : ℕ) (marks : MarkedNumbers) → size ≡ length steps + 1 → AreMarks size numbers marks → start ≡ marks.numbers.items → given ≡ dependents → AreDependents steps dependents
     → (i : ℕ) → Contains start i → i < length given
 first_within steps numbers start given dependents size marks whole are same those needs i c =
     let w = ((are.below i).0 (subst (λ (xs : List ℕ). Contains xs i) same c)).1 in
@@ -100,7 +100,7 @@ made_judge steps roots lists failed skipped start given dependents size judge ap
 -- ---- verdicts
 
 -- a number is told as one of some by their marks
-pub in_marks : (size : ℕ) (numbers listed : List ℕ) (marks : Marks) (m : ℕ) (b : Bool) → listed ≡ numbers → ((size : ℕ) → AreMarks size listed marks → b ≡ true ↔ Contains listed m) → AreMarks size numbers marks → b ≡ true ↔ Contains numbers m
+pub in_marks : (size : ℕ) (numbers listed : List ℕ) (marks : MarkedNumbers) (m : ℕ) (b : Bool) → listed ≡ numbers → ((size : ℕ) → AreMarks size listed marks → b ≡ true ↔ Contains listed m) → AreMarks size numbers marks → b ≡ true ↔ Contains numbers m
 in_marks size numbers listed marks m b e tells are =
     subst (λ (xs : List ℕ). b ≡ true ↔ Contains xs m) e (tells size (subst (λ (xs : List ℕ). AreMarks size xs marks) (sym e) are))
 

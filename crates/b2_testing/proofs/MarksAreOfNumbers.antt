@@ -9,11 +9,11 @@ use Rattle.b2_sched.specs.NumberSets.{Has}
 use Rattle.b2_sched.proofs.IndexFindsTheLowest.{has_set, has_still, had_or_is}
 use Rattle.b2_sched.proofs.ChangesKeepTheInvariant.{in_pushed, pushed_has}
 use Rattle.b2_sched.proofs.DependentsWakeOneByOne.{none_in_empty}
-use Rattle.b2_testing.specs.declared.pass_list.Marks.{Marks}
+use Rattle.b2_testing.specs.declared.pass_list.MarkedNumbers.{MarkedNumbers}
 use Rattle.b2_testing.specs.Leading.{AreMarks}
 
 -- at first there are none
-pub none_marked : (size : ℕ) (marks : Marks) → marks.flags.items ≡ replicate size false → marks.numbers.items ≡ [] → AreMarks size [] marks
+pub none_marked : (size : ℕ) (marks : MarkedNumbers) → marks.flags.items ≡ replicate size false → marks.numbers.items ≡ [] → AreMarks size [] marks
 none_marked size marks flags none = record {
   size_is = ap length flags ∙ length-replicate size false;
   flags_are = λ i w. ((λ h. absurd (false≢true (sym (get_or-replicate size i false false w) ∙ sym (ap (λ (fs : List Bool). get_or fs i false) flags) ∙ h))), (λ c. absurd (none_in_empty i c)));
@@ -21,7 +21,7 @@ none_marked size marks flags none = record {
 }
 
 -- a further number is below the size
-pub marked_more : (size : ℕ) (numbers : List ℕ) (n : ℕ) (a b : Marks) → n < size → b.flags.items ≡ set a.flags.items n true → b.numbers.items ≡ a.numbers.items ++ n ∷ [] → AreMarks size numbers a → AreMarks size (numbers ++ n ∷ []) b
+pub marked_more : (size : ℕ) (numbers : List ℕ) (n : ℕ) (a b : MarkedNumbers) → n < size → b.flags.items ≡ set a.flags.items n true → b.numbers.items ≡ a.numbers.items ++ n ∷ [] → AreMarks size numbers a → AreMarks size (numbers ++ n ∷ []) b
 marked_more size numbers n a b w flags pushed was = record {
   size_is = ap length flags ∙ length-set a.flags.items n true ∙ was.size_is;
   flags_are = λ i low. ((λ h. there i low (had_or_is a.flags.items n i (subst (λ (fs : List Bool). Has fs i) flags h))), (λ c. subst (λ (fs : List Bool). Has fs i) (sym flags) (back i low (in_pushed numbers n i c))));
@@ -48,7 +48,7 @@ marked_more size numbers n a b w flags pushed was = record {
     high i small (inr same) = subst (Contains (a.numbers.items ++ n ∷ [])) (sym same) (pushed_has a.numbers.items n)
 
 -- a further number is not
-pub marked_past : (size : ℕ) (numbers : List ℕ) (n : ℕ) (a : Marks) → size ≤ n → AreMarks size numbers a → AreMarks size (numbers ++ n ∷ []) a
+pub marked_past : (size : ℕ) (numbers : List ℕ) (n : ℕ) (a : MarkedNumbers) → size ≤ n → AreMarks size numbers a → AreMarks size (numbers ++ n ∷ []) a
 marked_past size numbers n a past was = record {
   size_is = was.size_is;
   flags_are = λ i small. ((λ h. Contains-append_left numbers (n ∷ []) i ((was.flags_are i small).0 h)), (λ c. (was.flags_are i small).1 (before i small (in_pushed numbers n i c))));

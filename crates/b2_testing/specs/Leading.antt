@@ -7,12 +7,12 @@ use Rattle.b2_endings.specs.declared.failed_lists.FailedLists.{FailedLists}
 use Rattle.b2_sched.specs.SchedulerCalls.{MakesOneOf}
 use Rattle.b2_sched.specs.Cycles.{NeedsIn}
 use Rattle.b2_sched.specs.NumberSets.{Has}
-use Rattle.b2_testing.specs.declared.pass_list.Marks.{Marks}
+use Rattle.b2_testing.specs.declared.pass_list.MarkedNumbers.{MarkedNumbers}
 use Rattle.b2_testing.specs.declared.pass_list.Judge.{Judge}
 use Rattle.b2_testing.specs.Verdicts.{Reaches}
 
 -- the marks of the numbers that are below a size, and these numbers
-pub record AreMarks (size : ℕ) (numbers : List ℕ) (marks : Marks) : Type 0 where
+pub record AreMarks (size : ℕ) (numbers : List ℕ) (marks : MarkedNumbers) : Type 0 where
   pub size_is : length marks.flags.items ≡ size
   pub flags_are : (i : ℕ) → i < size → Has marks.flags.items i ↔ Contains numbers i
   pub below : (i : ℕ) → Contains marks.numbers.items i ↔ (Contains numbers i × (i < size))

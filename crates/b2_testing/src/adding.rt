@@ -19,7 +19,7 @@ use std::alloc::Global;
 
 /// What a test builds before its marker.
 #[derive(Drop)]
-struct Before {
+struct TestPart {
     name: Text,
     kind: Kind,
 }
@@ -93,12 +93,12 @@ fn named(alloc: Global, test: &TestCall, suffix: &str) -> Result<Text, OutOfMemo
 }
 
 /// What a test builds before its marker: an object file, a program, or nothing.
-fn built(alloc: Global, test: &TestCall) -> Result<Option<Before>, OutOfMemory>
+fn built(alloc: Global, test: &TestCall) -> Result<Option<TestPart>, OutOfMemory>
     ensures { IfOk result (λ made. option_map (λ one. (one.name, one.kind)) made ≡ built test.now) }
 {
     if has_rule(test, "compile") {
         let name = named(alloc, test, ".obj")?;
-        return Ok(Some(Before {
+        return Ok(Some(TestPart {
             name,
             kind: Kind::Obj,
         }));
@@ -107,7 +107,7 @@ fn built(alloc: Global, test: &TestCall) -> Result<Option<Before>, OutOfMemory>
         return Ok(None);
     }
     let name = named(alloc, test, ".run")?;
-    Ok(Some(Before {
+    Ok(Some(TestPart {
         name,
         kind: Kind::Exe,
     }))
@@ -134,10 +134,10 @@ fn marker(alloc: Global, test: &TestCall, sources: TextList) -> Result<Target, O
 }
 
 /// What a test builds, and the marker that is made of it.
-fn with_built(alloc: Global, test: &TestCall, one: Before) -> Result<List<Target>, OutOfMemory>
+fn with_built(alloc: Global, test: &TestCall, one: TestPart) -> Result<List<Target>, OutOfMemory>
     ensures { IfOk result (λ made. made ≡ with_marker test.now (Some (one.name, one.kind))) }
 {
-    let Before { name, kind } = one;
+    let TestPart { name, kind } = one;
     let mut sources = TextList::new(alloc);
     sources.push(name.copy()?)?;
     let files = copy_texts(alloc, test.sources.as_slice())?;

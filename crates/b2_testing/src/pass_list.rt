@@ -22,12 +22,12 @@ use std::alloc::Global;
 
 /// For each number below a size whether it is among some numbers, and those that are below it.
 #[derive(Drop)]
-struct Marks {
+struct MarkedNumbers {
     flags: Vec<bool>,
     numbers: Vec<u32>,
 }
 
-impl Marks {
+impl MarkedNumbers {
     /// Marks a number, if it is below the size.
     fn mark(&mut self, number: u32) -> Result<(), OutOfMemory>
         ensures { OnOk result ((size : ℕ) (numbers : Items ℕ) → AreMarks size numbers self.old → AreMarks size (numbers ++ number ∷ []) self.new) }
@@ -42,11 +42,11 @@ impl Marks {
 }
 
 /// Marks the numbers that are below a size.
-fn marks_of(alloc: Global, size: usize, numbers: &[u32]) -> Result<Marks, OutOfMemory>
+fn marks_of(alloc: Global, size: usize, numbers: &[u32]) -> Result<MarkedNumbers, OutOfMemory>
     ensures { IfOk result (AreMarks size numbers.now) }
 {
     let flags = vec![in alloc; false; size]?;
-    let mut marks = Marks {
+    let mut marks = MarkedNumbers {
         flags,
         numbers: Vec::new(alloc),
     };
@@ -69,7 +69,7 @@ fn is_listed(numbers: &[u32], number: u32) -> bool
 }
 
 /// Whether a number is among some, by their marks where it is below their count.
-fn is_in(marks: &Marks, numbers: &[u32], number: u32) -> bool
+fn is_in(marks: &MarkedNumbers, numbers: &[u32], number: u32) -> bool
     ensures { (size : ℕ) → AreMarks size numbers.now marks.now → IsTrue result ↔ Contains numbers.now number }
 {
     match marks.flags.get(number as usize) {
@@ -143,8 +143,8 @@ fn dependents_of(alloc: Global, plan: &Plan) -> Result<Vec<List<u32>>, OutOfMemo
 #[derive(Drop)]
 struct Judge<'a> {
     lists: &'a FailedLists,
-    failed: Marks,
-    skipped: Marks,
+    failed: MarkedNumbers,
+    skipped: MarkedNumbers,
     led: Vec<bool>,
 }
 

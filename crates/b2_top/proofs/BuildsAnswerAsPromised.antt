@@ -1,8 +1,8 @@
 -- Whether the files and words came to a plan or stopped before it, the answer of a build is one that the call promises.
 use Rattle.std.proofs.Common.{◌≡◌, ℕ, List, [], Some, None, IfSome, Result, Ok, Err, refl, sym, ◌∙◌, subst}
-use Rattle.b2_top.proofs.OnlyPatternsRefuseAPlan.{whole_for, pattern_refused}
+use Rattle.b2_top.proofs.OnlyPatternsRefuseAPlan.{pattern_refused}
 use Rattle.b2_top.proofs.WrittenBytesAreTold.{if_map}
-use Rattle.b2_top.specs.RefusalCauses.{fault_of, IsPatternRefused}
+use Rattle.b2_top.specs.RefusalCauses.{IsPatternRefused}
 use Rattle.b2_top.specs.Reports.{echo_lines}
 use Rattle.b2_top.specs.Writing.{Writes, unwritten, AnswersStop}
 use Rattle.b2_top.specs.declared.answer.Answer.{Answer}
@@ -13,10 +13,10 @@ use Rattle.b2_prepare.specs.Laws.{OneMeaning}
 use Rattle.b2_prepare.specs.Meaning.{AsksTests, Means}
 use Rattle.b2_prepare.specs.Preparing.{IsPrepared, LinesTold, IsWhole as IsWholeStop, CountsStop}
 use Rattle.b2_prepare.proofs.LinesBeginTheLoad.{loaded_begins}
-use Rattle.b2_prepare.specs.declared.refusal.PlanRefusal.{PlanRefusal}
-use Rattle.b2_prepare.specs.declared.refusal.PlanRefusal.TheVariants as refusals
 use Rattle.b2_prepare.specs.declared.refusal.PlanStop.{PlanStop}
 use Rattle.b2_prepare.specs.declared.refusal.PlanStop.TheVariants as stops
+use Rattle.b2_refusals.specs.declared.fault.Fault.TheVariants as faults
+use Rattle.b2_refusals.specs.declared.fault.PlanRefusal.{PlanRefusal}
 use Rattle.b2_request_plan.specs.Plans.{seen}
 use Rattle.b2_request_plan.specs.TableRows.{lines_of, rows_of}
 use Rattle.b2_request_plan.specs.declared.planned.Planned.{Planned}
@@ -38,14 +38,8 @@ use Rattle.b2_top.specs.Reported.IsEarlyReport.{echoing}
 use Rattle.b2_top.specs.Reported.BeginsSome.{reporting}
 use Rattle.b2_top.specs.Running.{Runs, Calls}
 use Rattle.b2_top.specs.Running.Runs.{updates, stops as stops_echoing}
-use Rattle.b2_top.proofs.StillCallsAnswerAsPromised.{IsEarly, still_sink, still_memory, still_short, still_refused, still_fault}
+use Rattle.b2_top.proofs.StillCallsAnswerAsPromised.{still_sink, still_memory, still_short, still_refused, still_fault}
 use Rattle.b2_top.proofs.UpdatesAnswerAsPromised.{told_plan, ended}
-
--- such a refusal comes before anything is started
-early_of : (why : PlanRefusal) → IsEarly (fault_of why)
-early_of (refusals.Load fault) = tt
-early_of (refusals.Request fault) = tt
-early_of (refusals.Generation fault) = tt
 
 module _ (law : OneMeaning) (made : Made) (words : List Word) (command : BuildCommand) (asked : build_command words ≡ Some command) (h0 h1 : Outside) (o0 : Output)
     (idle : h0.children.running ≡ []) (echoes : List Word) (disk_same : h1.disk ≡ h0.disk) (children_same : h1.children ≡ h0.children) where
@@ -70,16 +64,14 @@ module _ (law : OneMeaning) (made : Made) (words : List Word) (command : BuildCo
   plan_means : (disk : Disk) (plan : HasPlan words disk) → Means disk None command.words plan.echoes (Ok plan.planned)
   plan_means disk plan = subst (λ (c : BuildCommand). Means disk None c.words plan.echoes (Ok plan.planned)) (same_command disk plan) plan.means
 
-  cause_of : (why : PlanRefusal) (disk : Disk) → IsPrepared disk command.words echoes (Err (stops.Refused why)) → HasNoPlan words disk echoes (fault_of why)
-  cause_of (refusals.Load fault) disk h = record { command = command; asked = asked; cause = h }
-  cause_of (refusals.Request fault) disk h = record { command = command; asked = asked; cause = h }
-  cause_of (refusals.Generation fault) disk h = record { command = command; asked = asked; cause = h }
+  cause_of : (why : PlanRefusal) (disk : Disk) → IsPrepared disk command.words echoes (Err (stops.Refused why)) → HasNoPlan words disk echoes (faults.Plan why)
+  cause_of why disk h = record { command = command; asked = asked; cause = h }
 
   pub stopped : (o1 : Output) (stop : PlanStop) (result : Answer) → Prepared (Err stop) → IfSome h0.disk (λ disk. LinesTold disk command.words echoes (Err stop)) → IsWholeStop stop → CountsStop stop h0 h1 → AnswersStop echoes stop o0 o1 result → Stopped o1 result
   stopped o1 (stops.Refused why) result told lines whole counts says =
-      still_refused made (build_of words) h0 h1 o0 o1 idle still (λ none. not_none none) (fault_of why) (early_of why) echoes result (whole_for why whole) (λ none. not_none none) counts
+      still_refused made (build_of words) h0 h1 o0 o1 idle still (λ none. not_none none) (faults.Plan why) tt echoes result whole (λ none. not_none none) counts
       (if_map h0.disk (cause_of why) told)
-      (if_map h0.disk (λ disk h plan. subst (λ (c : BuildCommand). IsPatternRefused disk c.words (answers.Refused (fault_of why))) (sym (same_command disk plan))
+      (if_map h0.disk (λ disk h plan. subst (λ (c : BuildCommand). IsPatternRefused disk c.words (answers.Refused (faults.Plan why))) (sym (same_command disk plan))
       (pattern_refused law disk command.words plan.echoes echoes plan.planned (plan_means disk plan) why whole h)) told) says
   stopped o1 stops.HostInLoad result told lines whole counts says =
       still_fault made (build_of words) h0 h1 o0 o1 idle still (λ none. not_none none) command asked echoes lines counts result says

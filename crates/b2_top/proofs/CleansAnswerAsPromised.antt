@@ -20,8 +20,6 @@ use Rattle.b2_request_plan.specs.Plans.{seen}
 use Rattle.b2_prepare.specs.Laws.{OneMeaning}
 use Rattle.b2_prepare.specs.Meaning.{Means}
 use Rattle.b2_prepare.specs.Preparing.{IsPrepared, IsWhole as IsWholeStop, CountsStop}
-use Rattle.b2_prepare.specs.Refusals.{IsWholeRefusal}
-use Rattle.b2_prepare.specs.declared.refusal.PlanRefusal.{PlanRefusal}
 use Rattle.b2_prepare.specs.declared.refusal.PlanStop.{PlanStop}
 use Rattle.b2_prepare.specs.declared.refusal.PlanStop.TheVariants as stops
 use Rattle.b2_runs.specs.Moments.{Moment}
@@ -33,11 +31,14 @@ use Rattle.b2_explain.specs.Faults.{CleanCounts}
 use Rattle.b2_explain.specs.Cleaning.{removals, removal_lines, AreFirstLines, MayBeCleaned, IsCleaned, CleanedBy, CleanTold, IsWrittenBy, CleanWritten}
 use Rattle.b2_explain.specs.Lines.{removed_line, removed_count_line}
 use Rattle.b2_refusals.specs.Lines.{usage_line}
+use Rattle.b2_refusals.specs.Wholes.{IsPlanRefusal}
+use Rattle.b2_refusals.specs.declared.fault.Fault.TheVariants as refusing
+use Rattle.b2_refusals.specs.declared.fault.PlanRefusal.{PlanRefusal}
 use Rattle.b2_update.specs.Moments.{moment}
 use Rattle.b2_top.specs.declared.answer.Answer.{Answer}
 use Rattle.b2_top.specs.declared.answer.Answer.TheVariants as answers
 use Rattle.b2_top.specs.Asked.{clean_words}
-use Rattle.b2_top.specs.RefusalCauses.{fault_of, IsPatternRefused}
+use Rattle.b2_top.specs.RefusalCauses.{IsPatternRefused}
 use Rattle.b2_top.specs.Reports.{echo_lines, refusal_report, fault_report}
 use Rattle.b2_top.specs.BetweenMoments.{HostFailedBeforeReport, WrittenTold, Wrote}
 use Rattle.b2_top.specs.Writing.{FailsIn, Writes, unwritten, Says, SaysFault, AnswersStop}
@@ -49,10 +50,9 @@ use Rattle.b2_top.specs.FreePlans.BeginsSomeFree.{nothing as begins_nothing, rep
 use Rattle.b2_top.specs.Cleans.{HasPlan, LeavesFiles, LeavesTold, IsTold, IsCleanedTold, IsBegun, ReportedBy, ReportTold, IsAnswered, TellsCleaned, CleansPlan}
 use Rattle.b2_top.specs.Cleans.CleansPlan.{cut as plan_cut, told as plan_told}
 use Rattle.b2_top.proofs.FaultsCountFromEarlier.{same_count, sink_failed_from}
-use Rattle.b2_top.proofs.LooksAnswerAsPromised.{is_of_planning}
-use Rattle.b2_top.proofs.OnlyPatternsRefuseAPlan.{whole_for, pattern_refused}
+use Rattle.b2_top.proofs.OnlyPatternsRefuseAPlan.{pattern_refused}
 use Rattle.b2_top.proofs.PiecesWrittenMakeTheWhole.{written_none, front_more, front_after, keeps_written, keeps_failed}
-use Rattle.b2_top.proofs.WrittenBytesAreTold.{if_map, if_all, written_told, text_of, faults_of, has_cause}
+use Rattle.b2_top.proofs.WrittenBytesAreTold.{if_map, if_all, written_told, text_of, faults_of}
 
 -- ---- bytes
 
@@ -222,25 +222,25 @@ module _ (law : OneMeaning) (words free : List Word) (asked : clean_words words 
     still : LeavesTold words h0 h1
     still = leaves_still words h0 h1 disk_same
 
-    module _ (why : PlanRefusal) (told : IfSome h0.disk (IsLoaded (Err (stops.Refused why)))) (input : IsWholeRefusal why) (same : h1.faults ≡ h0.faults) where
+    module _ (why : PlanRefusal) (told : IfSome h0.disk (IsLoaded (Err (stops.Refused why)))) (input : IsPlanRefusal why) (same : h1.faults ≡ h0.faults) where
       abbrev whole_refusal : List ℕ
-      whole_refusal = refusal_report echoes [] (fault_of why)
+      whole_refusal = refusal_report echoes [] (refusing.Plan why)
 
-      no_plan : (disk : Disk) → IsLoaded (Err (stops.Refused why)) disk → HasNoFreePlan (clean_words words) disk echoes (fault_of why)
-      no_plan disk h = record { words = free; asked = asked; cause = has_cause disk free echoes why h }
+      no_plan : (disk : Disk) → IsLoaded (Err (stops.Refused why)) disk → HasNoFreePlan (clean_words words) disk echoes (refusing.Plan why)
+      no_plan disk h = record { words = free; asked = asked; cause = h }
 
-      is_refused : (disk : Disk) → IsLoaded (Err (stops.Refused why)) disk → IsFreeRefused (clean_words words) disk (fault_of why) whole_refusal
+      is_refused : (disk : Disk) → IsLoaded (Err (stops.Refused why)) disk → IsFreeRefused (clean_words words) disk (refusing.Plan why) whole_refusal
       is_refused disk h = record { echoes = echoes; cause = no_plan disk h; report = refl }
 
       same_words : (disk : Disk) (plan : HasPlan words disk) → plan.words ≡ free
       same_words disk plan = let e : Some plan.words ≡ Some free = sym plan.asked ∙ asked in cc
 
-      answered_refusal : (result : Answer) → Says (answers.Refused (fault_of why)) whole_refusal o0 o1 result → IsAnswered words start stop result
+      answered_refusal : (result : Answer) → Says (answers.Refused (refusing.Plan why)) whole_refusal o0 o1 result → IsAnswered words start stop result
       answered_refusal result (said is p) = subst (IsAnswered words start stop) (sym is) (record {
         cleaned = λ e. absurd cc;
         leaves = still;
         stays = disk_same;
-        reported = written_told start stop whole_refusal (ReportedBy words start stop (answers.Refused (fault_of why))) (text_of whole_refusal o0 o1 p) (if_map h0.disk is_refused told);
+        reported = written_told start stop whole_refusal (ReportedBy words start stop (answers.Refused (refusing.Plan why))) (text_of whole_refusal o0 o1 p) (if_map h0.disk is_refused told);
         children = children;
         keeps = keeps;
         out_keeps = keeps_written whole_refusal o0 o1 p;
@@ -250,19 +250,19 @@ module _ (law : OneMeaning) (words free : List Word) (asked : clean_words words 
         no_usage = λ e. absurd cc;
         usage_told = λ e. absurd cc;
         cause = if_map h0.disk (λ disk h. (echoes, no_plan disk h)) told;
-        whole = whole_for why input;
-        not_failed = is_of_planning why;
+        whole = input;
+        not_failed = tt;
         complete = if_map h0.disk (λ disk h plan.
-            inr (subst (λ (l : List Word). IsPatternRefused disk l (answers.Refused (fault_of why))) (sym (same_words disk plan))
+            inr (subst (λ (l : List Word). IsPatternRefused disk l (answers.Refused (refusing.Plan why))) (sym (same_words disk plan))
             (pattern_refused law disk free plan.echoes echoes plan.planned (subst (λ (l : List Word). Means disk None l plan.echoes (Ok plan.planned)) (same_words disk plan) plan.means) why input h))) told;
       })
       answered_refusal result (failed is f) =
           subst (IsAnswered words start stop) (sym is) (ended_sink words start stop still children keeps (keeps_failed whole_refusal o0 o1 f) (λ none. not_none none) f.sink same
-          (written_told start stop f.part (ReportedBy words start stop answers.SinkFault) f.written (if_map h0.disk (λ disk h. begins_refused (fault_of why) whole_refusal (is_refused disk h) f.begins) told)))
+          (written_told start stop f.part (ReportedBy words start stop answers.SinkFault) f.written (if_map h0.disk (λ disk h. begins_refused (refusing.Plan why) whole_refusal (is_refused disk h) f.begins) told)))
       answered_refusal result (stopped is s) =
           subst (IsAnswered words start stop) (sym is) (ended_memory words start stop still children keeps (keeps_written s.part o0 o1 s.same) (λ none. not_none none) (faults_of s.part o0 o1 s.same)
           (written_told start stop s.part (ReportedBy words start stop answers.OutOfMemory) (text_of s.part o0 o1 s.same)
-          (if_map h0.disk (λ disk h. begins_report (begins_refused (fault_of why) whole_refusal (is_refused disk h) s.begins)) told)))
+          (if_map h0.disk (λ disk h. begins_report (begins_refused (refusing.Plan why) whole_refusal (is_refused disk h) s.begins)) told)))
 
     module _ (rose : Rose h0.faults h1.faults) where
       echoed_only : (disk : Disk) → IsBegun words disk echoed_lines

@@ -16,9 +16,6 @@ use Rattle.b2_request_plan.specs.Plans.{seen}
 use Rattle.b2_prepare.specs.Laws.{OneMeaning}
 use Rattle.b2_prepare.specs.Meaning.{Means}
 use Rattle.b2_prepare.specs.Preparing.{IsPrepared, IsWhole as IsWholeStop, CountsStop}
-use Rattle.b2_prepare.specs.Refusals.{IsWholeRefusal}
-use Rattle.b2_prepare.specs.declared.refusal.PlanRefusal.{PlanRefusal}
-use Rattle.b2_prepare.specs.declared.refusal.PlanRefusal.TheVariants as refusals
 use Rattle.b2_prepare.specs.declared.refusal.PlanStop.{PlanStop}
 use Rattle.b2_prepare.specs.declared.refusal.PlanStop.TheVariants as stops
 use Rattle.b2_explain.specs.declared.cause.Why.{Why}
@@ -27,7 +24,9 @@ use Rattle.b2_explain.specs.declared.fault.ExplainFault.TheVariants as explainin
 use Rattle.b2_explain.specs.Faults.{ExplainCounts}
 use Rattle.b2_refusals.specs.declared.fault.Fault.{Fault}
 use Rattle.b2_refusals.specs.declared.fault.Fault.TheVariants as faults
+use Rattle.b2_refusals.specs.declared.fault.PlanRefusal.{PlanRefusal}
 use Rattle.b2_refusals.specs.Lines.{usage_line}
+use Rattle.b2_refusals.specs.Wholes.{IsPlanRefusal}
 use Rattle.b2_top.specs.Askings.{IsProjectRefusal}
 use Rattle.b2_update.specs.Moments.{moment}
 use Rattle.b2_top.specs.declared.answer.Answer.{Answer}
@@ -38,7 +37,7 @@ use Rattle.b2_top.specs.Endings.{IsOrCutShort}
 use Rattle.b2_top.specs.FreePlans.{IsFreeRefused, EndsWithFault, BeginsFreeReport, BeginsSomeFree}
 use Rattle.b2_top.specs.FreePlans.BeginsFreeReport.{usage as begins_usage, whole as begins_whole, refused as begins_refused}
 use Rattle.b2_top.specs.FreePlans.BeginsSomeFree.{nothing as has_nothing, report as has_report, host_fault as has_fault}
-use Rattle.b2_top.specs.RefusalCauses.{fault_of, IsPatternRefused}
+use Rattle.b2_top.specs.RefusalCauses.{IsPatternRefused}
 use Rattle.b2_top.specs.Reports.{echo_lines, refusal_report, fault_report}
 use Rattle.b2_top.specs.BetweenMoments.{HostFailedBeforeReport}
 use Rattle.b2_top.specs.Writing.{FailsIn, StopsIn, Says, SaysFault, AnswersStop}
@@ -46,9 +45,9 @@ use Rattle.b2_top.specs.Writing.Says.{said, failed, stopped}
 use Rattle.b2_top.specs.Writing.SaysFault.{fault_said, fault_failed, fault_stopped}
 use Rattle.b2_top.specs.Explains.{IsTooBigFor, HasPlan, IsTold, IsTooBigTold, IsReport, IsEchoed, CausedBy, IsOfExplaining, IsTooBigAnswer, IsAnswered, ExplainedBy, explained_report, TellsWhys, TellsPlan}
 use Rattle.b2_top.proofs.CausesAreReadFromLog.{still_keeps, counts_stay}
-use Rattle.b2_top.proofs.OnlyPatternsRefuseAPlan.{whole_for, pattern_refused}
+use Rattle.b2_top.proofs.OnlyPatternsRefuseAPlan.{pattern_refused}
 use Rattle.b2_top.proofs.PiecesWrittenMakeTheWhole.{written_none, keeps_written, keeps_failed}
-use Rattle.b2_top.proofs.WrittenBytesAreTold.{if_map, if_all, written_told, text_of, faults_of, has_cause}
+use Rattle.b2_top.proofs.WrittenBytesAreTold.{if_map, if_all, written_told, text_of, faults_of}
 
 -- What stays at the host: its files, its children, and all that every call keeps. Where no explanation is asked for, all stays.
 record Stays (words : List Word) (before after : Outside) : Type 0 where
@@ -210,11 +209,6 @@ answered_short words host x = ended_short words host host x x (all_stays words h
 
 -- ---- an explanation
 
-is_of_explaining : (why : PlanRefusal) → IsOfExplaining (fault_of why)
-is_of_explaining (refusals.Load fault) = tt
-is_of_explaining (refusals.Request fault) = tt
-is_of_explaining (refusals.Generation fault) = tt
-
 module _ (law : OneMeaning) (words : List Word) (command : ExplainCommand) (asked : explain_command words ≡ Some command) (h0 h1 : Outside) (o0 o1 : Output) (echoes : List Word)
     (disk : h1.disk ≡ h0.disk) (children : h1.children ≡ h0.children) (keeps : Keeps h0 h1) where
   not_none : explain_command words ≡ None → ⊥
@@ -245,23 +239,23 @@ module _ (law : OneMeaning) (words : List Word) (command : ExplainCommand) (aske
       subst IsPromised (sym is) (ended_memory words h0 h1 o0 o1 it_stays bytes s (λ part front. if_map h0.disk (λ now b. has_report b) (begins part front)))
 
   -- there is no plan
-  module _ (why : PlanRefusal) (came : CameTo (Err (stops.Refused why))) (input : IsWholeRefusal why) (same : h1.faults ≡ h0.faults) where
+  module _ (why : PlanRefusal) (came : CameTo (Err (stops.Refused why))) (input : IsPlanRefusal why) (same : h1.faults ≡ h0.faults) where
     abbrev whole_refusal : List ℕ
-    whole_refusal = refusal_report echoes [] (fault_of why)
+    whole_refusal = refusal_report echoes [] (faults.Plan why)
 
-    no_plan : (now : Disk) → IsPrepared now command.words echoes (Err (stops.Refused why)) → IsFreeRefused (explained_words words) now (fault_of why) whole_refusal
-    no_plan now h = record { echoes = echoes; cause = record { words = command.words; asked = free_words; cause = has_cause now command.words echoes why h }; report = refl }
+    no_plan : (now : Disk) → IsPrepared now command.words echoes (Err (stops.Refused why)) → IsFreeRefused (explained_words words) now (faults.Plan why) whole_refusal
+    no_plan now h = record { echoes = echoes; cause = record { words = command.words; asked = free_words; cause = h }; report = refl }
 
-    by_pattern : (now : Disk) → IsPrepared now command.words echoes (Err (stops.Refused why)) → (plan : HasPlan words now) → IsPatternRefused now plan.command.words (answers.Refused (fault_of why))
+    by_pattern : (now : Disk) → IsPrepared now command.words echoes (Err (stops.Refused why)) → (plan : HasPlan words now) → IsPatternRefused now plan.command.words (answers.Refused (faults.Plan why))
     by_pattern now h plan =
         let is = same_command now plan in
-        subst (λ (c : ExplainCommand). IsPatternRefused now c.words (answers.Refused (fault_of why))) (sym is)
+        subst (λ (c : ExplainCommand). IsPatternRefused now c.words (answers.Refused (faults.Plan why))) (sym is)
         (pattern_refused law now command.words plan.echoes echoes plan.planned (subst (λ (c : ExplainCommand). Means now None c.words plan.echoes (Ok plan.planned)) is plan.means) why input h)
 
-    answered_refusal : (result : Answer) → Says (answers.Refused (fault_of why)) whole_refusal o0 o1 result → IsPromised result
+    answered_refusal : (result : Answer) → Says (answers.Refused (faults.Plan why)) whole_refusal o0 o1 result → IsPromised result
     answered_refusal result told =
-        says (answers.Refused (fault_of why)) whole_refusal result same (λ part front. if_map h0.disk (λ now h. begins_refused (fault_of why) whole_refusal (no_plan now h) front) came)
-        (λ p. ended_refused words h0 h1 o0 o1 it_stays (fault_of why) whole_refusal p same not_none (whole_for why input) (is_of_explaining why)
+        says (answers.Refused (faults.Plan why)) whole_refusal result same (λ part front. if_map h0.disk (λ now h. begins_refused (faults.Plan why) whole_refusal (no_plan now h) front) came)
+        (λ p. ended_refused words h0 h1 o0 o1 it_stays (faults.Plan why) whole_refusal p same not_none input tt
         (if_map h0.disk (λ now h. inl (no_plan now h)) came) (if_map h0.disk (λ now h plan. inr (inr (by_pattern now h plan))) came)) told
 
   -- the host failed

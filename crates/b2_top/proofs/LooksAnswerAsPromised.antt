@@ -14,17 +14,17 @@ use Rattle.b2_prepare.specs.Laws.{OneMeaning}
 use Rattle.b2_prepare.specs.Meaning.{BeginLoad, Means}
 use Rattle.b2_prepare.proofs.LinesBeginTheLoad.{loaded_begins}
 use Rattle.b2_prepare.specs.Preparing.{IsPrepared, LinesTold, IsWhole as IsWholeStop, Counts}
-use Rattle.b2_prepare.specs.Refusals.{IsWholeRefusal}
-use Rattle.b2_prepare.specs.declared.refusal.PlanRefusal.{PlanRefusal}
-use Rattle.b2_prepare.specs.declared.refusal.PlanRefusal.TheVariants as refusals
 use Rattle.b2_prepare.specs.declared.refusal.PlanStop.{PlanStop}
 use Rattle.b2_prepare.specs.declared.refusal.PlanStop.TheVariants as stops
 use Rattle.b2_runs.specs.Moments.{Moment}
 use Rattle.b2_runs.specs.UpdateAnswers.{SinkFailed}
 use Rattle.b2_refusals.specs.Lines.{usage_line}
+use Rattle.b2_refusals.specs.Wholes.{IsPlanRefusal}
+use Rattle.b2_refusals.specs.declared.fault.Fault.TheVariants as faults
+use Rattle.b2_refusals.specs.declared.fault.PlanRefusal.{PlanRefusal}
 use Rattle.b2_top.specs.declared.answer.Answer.{Answer}
 use Rattle.b2_top.specs.declared.answer.Answer.TheVariants as answers
-use Rattle.b2_top.specs.RefusalCauses.{fault_of, IsPatternRefused}
+use Rattle.b2_top.specs.RefusalCauses.{IsPatternRefused}
 use Rattle.b2_top.specs.Reports.{refusal_report, fault_report}
 use Rattle.b2_top.specs.Writing.{FailsIn, StopsIn, Says, SaysFault}
 use Rattle.b2_top.specs.Writing.Says.{said, failed, stopped}
@@ -32,14 +32,14 @@ use Rattle.b2_top.specs.Writing.SaysFault.{fault_said, fault_failed, fault_stopp
 use Rattle.b2_update.specs.Moments.{moment}
 use Rattle.b2_top.specs.declared.look.LookRequest.{LookRequest}
 use Rattle.b2_top.specs.Looks.{look_of, look_report}
-use Rattle.b2_top.specs.Shows.{HasPlan, HasNoPlan, IsShown, IsRefused, BeginsReport, BeginsSome, IsOfPlanning, IsAnswered}
+use Rattle.b2_top.specs.Shows.{HasPlan, HasNoPlan, IsShown, IsRefused, BeginsReport, BeginsSome, IsAnswered}
 use Rattle.b2_top.specs.Shows.BeginsReport.{usage, shown, refused}
 use Rattle.b2_top.specs.Shows.BeginsSome.{nothing, report, host_fault}
 use Rattle.b2_top.specs.Tells.{AnswersWith}
 use Rattle.b2_top.specs.BetweenMoments.{HostFailedBeforeReport}
-use Rattle.b2_top.proofs.OnlyPatternsRefuseAPlan.{whole_for, pattern_refused}
+use Rattle.b2_top.proofs.OnlyPatternsRefuseAPlan.{pattern_refused}
 use Rattle.b2_top.proofs.PiecesWrittenMakeTheWhole.{keeps_written, keeps_failed}
-use Rattle.b2_top.proofs.WrittenBytesAreTold.{if_map, if_all, written_told, text_of, faults_of, has_cause}
+use Rattle.b2_top.proofs.WrittenBytesAreTold.{if_map, if_all, written_told, text_of, faults_of}
 
 -- ---- answers, whatever the words are
 
@@ -134,11 +134,6 @@ answered_usage words host x y result none (stopped is s) =
 
 -- ---- a look
 
-pub is_of_planning : (why : PlanRefusal) → IsOfPlanning (fault_of why)
-is_of_planning (refusals.Load fault) = tt
-is_of_planning (refusals.Request fault) = tt
-is_of_planning (refusals.Generation fault) = tt
-
 module _ (law : OneMeaning) (words : List Word) (look : LookRequest) (asked : look_of words ≡ Some look) (h0 h1 : Outside) (o0 o1 : Output) (echoes : List Word) where
   not_none : {X : Type 0} → look_of words ≡ None → X
   not_none none = let e : None ≡ Some look = sym none ∙ asked in absurd cc
@@ -186,42 +181,42 @@ module _ (law : OneMeaning) (words : List Word) (look : LookRequest) (asked : lo
         (λ part front. if_map h0.disk (λ disk h. report (shown whole_look (is_shown disk h) front)) told))
 
   -- there is none
-  module _ (why : PlanRefusal) (told : IsTold (Err (stops.Refused why))) (input : IsWholeRefusal why) (same : h1.faults ≡ h0.faults) where
+  module _ (why : PlanRefusal) (told : IsTold (Err (stops.Refused why))) (input : IsPlanRefusal why) (same : h1.faults ≡ h0.faults) where
     abbrev whole_refusal : List ℕ
-    whole_refusal = refusal_report echoes [] (fault_of why)
+    whole_refusal = refusal_report echoes [] (faults.Plan why)
 
-    no_plan : (disk : Disk) → IsPrepared disk look.words echoes (Err (stops.Refused why)) → HasNoPlan words disk echoes (fault_of why)
-    no_plan disk h = record { look = look; asked = asked; cause = has_cause disk look.words echoes why h }
+    no_plan : (disk : Disk) → IsPrepared disk look.words echoes (Err (stops.Refused why)) → HasNoPlan words disk echoes (faults.Plan why)
+    no_plan disk h = record { look = look; asked = asked; cause = h }
 
-    is_refused : (disk : Disk) → IsPrepared disk look.words echoes (Err (stops.Refused why)) → IsRefused words disk (fault_of why) whole_refusal
+    is_refused : (disk : Disk) → IsPrepared disk look.words echoes (Err (stops.Refused why)) → IsRefused words disk (faults.Plan why) whole_refusal
     is_refused disk h = record { echoes = echoes; cause = no_plan disk h; report = refl }
 
     same_look : (disk : Disk) (plan : HasPlan words disk) → plan.look ≡ look
     same_look disk plan = let e : Some plan.look ≡ Some look = sym plan.asked ∙ asked in cc
 
-    pub answered_refusal : (result : Answer) → Says (answers.Refused (fault_of why)) whole_refusal o0 o1 result → Promised result
+    pub answered_refusal : (result : Answer) → Says (answers.Refused (faults.Plan why)) whole_refusal o0 o1 result → Promised result
     answered_refusal result (said is p) = subst Promised (sym is) (record {
       shown = λ e. absurd cc;
-      reported = written_told (moment h0 o0) (moment h1 o1) whole_refusal (λ disk. IsRefused words disk (fault_of why)) (text_of whole_refusal o0 o1 p) (if_map h0.disk is_refused told);
+      reported = written_told (moment h0 o0) (moment h1 o1) whole_refusal (λ disk. IsRefused words disk (faults.Plan why)) (text_of whole_refusal o0 o1 p) (if_map h0.disk is_refused told);
       counts = record { host = same; sink = faults_of whole_refusal o0 o1 p };
       usage = λ none. not_none none;
       alone = λ none. not_none none;
       no_usage = λ e. absurd cc;
       usage_told = λ e. absurd cc;
-      whole = whole_for why input;
-      not_failed = is_of_planning why;
+      whole = input;
+      not_failed = tt;
       complete = if_map h0.disk (λ disk h plan.
-          inr (subst (λ (l : LookRequest). IsPatternRefused disk l.words (answers.Refused (fault_of why))) (sym (same_look disk plan))
+          inr (subst (λ (l : LookRequest). IsPatternRefused disk l.words (answers.Refused (faults.Plan why))) (sym (same_look disk plan))
           (pattern_refused law disk look.words plan.echoes echoes plan.planned (subst (λ (l : LookRequest). Means disk None l.words plan.echoes (Ok plan.planned)) (same_look disk plan) plan.means) why input h))) told;
       cause = if_map h0.disk (λ disk h. (echoes, no_plan disk h)) told;
       out_keeps = keeps_written whole_refusal o0 o1 p;
     })
     answered_refusal result (failed is f) =
         subst Promised (sym is) (ended_sink words (moment h0 o0) (moment h1 o1) whole_refusal f (λ none. not_none none) same
-        (λ part front. if_map h0.disk (λ disk h. refused (fault_of why) whole_refusal (is_refused disk h) front) told))
+        (λ part front. if_map h0.disk (λ disk h. refused (faults.Plan why) whole_refusal (is_refused disk h) front) told))
     answered_refusal result (stopped is s) =
         subst Promised (sym is) (ended_memory words (moment h0 o0) (moment h1 o1) whole_refusal s (λ none. not_none none)
-        (λ part front. if_map h0.disk (λ disk h. report (refused (fault_of why) whole_refusal (is_refused disk h) front)) told))
+        (λ part front. if_map h0.disk (λ disk h. report (refused (faults.Plan why) whole_refusal (is_refused disk h) front)) told))
 
   -- the host failed
   module _ (begins : IfSome h0.disk (λ disk. BeginLoad disk look.words echoes)) (rose : Rose h0.faults h1.faults) where

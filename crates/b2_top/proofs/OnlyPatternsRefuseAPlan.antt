@@ -1,9 +1,9 @@
--- A whole refusal is no fault of the host or of memory; where there is a plan, only a pattern can have been refused.
-use Rattle.std.proofs.Common.{◌≡◌, ◌≢◌, ℕ, is_some, Option, Some, None, List, Result, Ok, Err, refl, sym, ap, ◌∙◌, subst}
+-- Where there is a plan, only a pattern can have been refused.
+use Rattle.std.proofs.Common.{◌≡◌, ◌≢◌, ℕ, is_some, Option, Some, None, List, Result, Ok, Err, refl, subst}
 use Rattle.std.specs.Option.{option_map}
 use Rattle.b2_host.specs.Disks.{Disk}
 use Rattle.jam_journal.specs.Tables.{Text}
-use Rattle.jam_effects.specs.Causes.{HoldsNoMemory, refused_by}
+use Rattle.jam_effects.specs.Causes.{refused_by}
 use Rattle.jam_effects.specs.declared.fault.EvalFault.{EvalFault}
 use Rattle.jam_effects.specs.declared.fault.EvalFault.TheVariants as evaluating
 use Rattle.b2_props.specs.declared.request_fault.RequestFault.{RequestFault}
@@ -13,10 +13,9 @@ use Rattle.b2_alternatives.specs.declared.fault.ChoiceFault.TheVariants as choos
 use Rattle.b2_making.specs.Faults as made
 use Rattle.b2_making.specs.declared.fault.MakingFault.{MakingFault}
 use Rattle.b2_making.specs.declared.fault.MakingFault.TheVariants as making
-use Rattle.b2_project_walk.specs.Faults.{eval_refusal, lex_refusal, syntax_refusal, feature_refusal, refusal_of as load_refusal, refused_by as load_refused_by}
+use Rattle.b2_project_walk.specs.Faults.{refusal_of as load_refusal, refused_by as load_refused_by}
 use Rattle.b2_project_walk.specs.Walks.{Refusal as LoadRefusal}
 use Rattle.b2_project_walk.specs.declared.fault.LoadFault.{LoadFault}
-use Rattle.b2_project_walk.specs.declared.fault.LoadFault.TheVariants as loading
 use Rattle.b2_generate.specs.Faults.{Fault as Generating, no_target, target_cycle, usage_conflict, not_chosen, not_made}
 use Rattle.b2_generate.specs.Planning.{Planned}
 use Rattle.b2_generate.specs.ToldOutcomes.{unless}
@@ -25,95 +24,15 @@ use Rattle.b2_generate.specs.declared.fault.GenFault.TheVariants as generating
 use Rattle.b2_prepare.specs.Laws.{OneMeaning}
 use Rattle.b2_prepare.specs.Meaning.{Refusal as Why, of_load, of_request, of_generation, IsRefusedInGeneration, Means}
 use Rattle.b2_prepare.specs.Preparing.{IfRefusal, IfOfGeneration, IsPrepared, call_of}
-use Rattle.b2_prepare.specs.Refusals.{refusal_of, IsWholeRefusal}
-use Rattle.b2_prepare.specs.declared.refusal.PlanRefusal.{PlanRefusal}
-use Rattle.b2_prepare.specs.declared.refusal.PlanRefusal.TheVariants as refusals
+use Rattle.b2_prepare.specs.Refusals.{refusal_of}
 use Rattle.b2_prepare.specs.declared.refusal.PlanStop.TheVariants as stops
-use Rattle.b2_refusals.specs.Wholes.{IsEvalRefusal, IsLoadRefusal, IsChoiceRefusal, IsMakingRefusal, IsGenRefusal, IsWhole}
+use Rattle.b2_refusals.proofs.FailuresAreRefusals.{load_found}
+use Rattle.b2_refusals.specs.Wholes.{IsChoiceRefusal, IsMakingRefusal, IsGenRefusal, IsPlanRefusal}
+use Rattle.b2_refusals.specs.declared.fault.Fault.TheVariants as faults
+use Rattle.b2_refusals.specs.declared.fault.PlanRefusal.{PlanRefusal}
+use Rattle.b2_refusals.specs.declared.fault.PlanRefusal.TheVariants as refusals
 use Rattle.b2_top.specs.declared.answer.Answer.TheVariants as answers
-use Rattle.b2_top.specs.Askings.{IsProjectRefusal}
-use Rattle.b2_top.specs.RefusalCauses.{fault_of, pattern_of_choice, pattern_of_making, pattern_of_generation, IsPatternRefused}
-
-none_some : {A : Type 0} (x : A) → None ≡ Some x → ⊥
-none_some x e = cc
-
--- ---- no fault of the host and no out of memory is within
-
-eval_whole : (fault : EvalFault) (why : LoadRefusal) → eval_refusal fault ≡ Some why → HoldsNoMemory fault → IsEvalRefusal fault
-eval_whole evaluating.Host why e h = none_some why e
-eval_whole evaluating.OutOfMemory why e h = none_some why e
-eval_whole (evaluating.At path line cause) why e h = h
-
-load_whole : (fault : LoadFault) → IsWholeRefusal (refusals.Load fault) → IsLoadRefusal fault
-load_whole loading.NoJamroot h = tt
-load_whole (loading.NoJamfile dir) h = tt
-load_whole (loading.TooBig path size) h = tt
-load_whole (loading.Lex path fault) h = λ is. none_some h.0 (sym (ap (lex_refusal path) is) ∙ h.1)
-load_whole (loading.Syntax path fault) h = λ is. none_some h.0 (sym (ap (syntax_refusal path) is) ∙ h.1)
-load_whole (loading.Eval fault) h = eval_whole fault h.0 h.1 h.2
-load_whole (loading.Declaration path rule line) h = tt
-load_whole (loading.Feature path line fault) h = λ is. none_some h.0 (sym (ap (feature_refusal path line) is) ∙ h.1)
-load_whole loading.Host h = h
-load_whole loading.OutOfMemory h = h
-
-request_whole : (fault : RequestFault) → IsWholeRefusal (refusals.Request fault) → fault ≢ asking.OutOfMemory
-request_whole (asking.UnknownWord word) h = λ is. cc
-request_whole (asking.UnknownValue word) h = λ is. cc
-request_whole (asking.Conflict word) h = λ is. cc
-request_whole asking.OutOfMemory h = absurd h
-
-choice_whole : (fault : ChoiceFault EvalFault) → IsWholeRefusal (refusals.Generation (generating.NotChosen fault)) → IsChoiceRefusal fault
-choice_whole (choosing.NoAlternative target set) h = tt
-choice_whole (choosing.AmbiguousAlternative target set i k) h = tt
-choice_whole (choosing.Unstable target first second) h = tt
-choice_whole (choosing.BadAnswer target rule word) h = tt
-choice_whole (choosing.Eval evaluating.Host) h = h
-choice_whole (choosing.Eval evaluating.OutOfMemory) h = h
-choice_whole (choosing.Eval (evaluating.At path line cause)) h = h
-choice_whole choosing.OutOfMemory h = h
-
-making_whole : (fault : MakingFault EvalFault) → IsWholeRefusal (refusals.Generation (generating.NotMade fault)) → IsMakingRefusal fault
-making_whole (making.NoChain from to) h = tt
-making_whole (making.TwoChains from to first second) h = tt
-making_whole (making.PathClash path) h = tt
-making_whole (making.LocationOutside path) h = tt
-making_whole (making.TooManySteps count) h = tt
-making_whole (making.Eval evaluating.Host) h = h
-making_whole (making.Eval evaluating.OutOfMemory) h = h
-making_whole (making.Eval (evaluating.At path line cause)) h = h
-making_whole making.OutOfMemory h = h
-
-generation_whole : (fault : GenFault EvalFault) → IsWholeRefusal (refusals.Generation fault) → IsGenRefusal fault
-generation_whole (generating.NoTarget name) h = tt
-generation_whole (generating.TargetCycle targets) h = tt
-generation_whole (generating.UsageConflict target feature first second) h = tt
-generation_whole (generating.NotChosen fault) h = choice_whole fault h
-generation_whole (generating.NotMade fault) h = making_whole fault h
-generation_whole generating.OutOfMemory h = h
-
-pub whole_of : (why : PlanRefusal) → IsWholeRefusal why → IsWhole (fault_of why)
-whole_of (refusals.Load fault) h = load_whole fault h
-whole_of (refusals.Request fault) h = request_whole fault h
-whole_of (refusals.Generation fault) h = generation_whole fault h
-
-pub whole_for : (why : PlanRefusal) → IsWholeRefusal why → IsProjectRefusal (fault_of why)
-whole_for (refusals.Load fault) h = load_whole fault h
-whole_for (refusals.Request fault) h = request_whole fault h
-whole_for (refusals.Generation fault) h = generation_whole fault h
-
--- ---- where there is a plan, only a pattern can have been refused
-
-load_found : (fault : LoadFault) → IsWholeRefusal (refusals.Load fault) → (why : LoadRefusal) × (load_refusal fault ≡ Some why)
-load_found loading.NoJamroot h = h
-load_found (loading.NoJamfile dir) h = h
-load_found (loading.TooBig path size) h = h
-load_found (loading.Lex path fault) h = h
-load_found (loading.Syntax path fault) h = h
-load_found (loading.Eval fault) h = (h.0, h.1)
-load_found (loading.Declaration path rule line) h = h
-load_found (loading.Feature path line fault) h = h
-load_found loading.Host h = absurd h
-load_found loading.OutOfMemory h = absurd h
+use Rattle.b2_top.specs.RefusalCauses.{pattern_of_choice, pattern_of_making, pattern_of_generation, IsPatternRefused}
 
 module _ (law : OneMeaning) (disk : Disk) (words echoes others : List Text) (planned : Planned) (means : Means disk None words echoes (Ok planned)) where
   -- what is told of a refusal
@@ -137,17 +56,17 @@ module _ (law : OneMeaning) (disk : Disk) (words echoes others : List Text) (pla
   by_load : (fault : LoadFault) → (why : LoadRefusal) × (load_refusal fault ≡ Some why) → IfRefusal (Unit {0}) (option_map of_load (load_refusal fault)) (IsTold (load_refused_by fault)) → (p : Text) × (load_refused_by fault ≡ Some p)
   by_load fault found told = by_pattern (load_refused_by fault) (of_load found.0) (subst (λ o. IfRefusal (Unit {0}) (option_map of_load o) (IsTold (load_refused_by fault))) found.1 told)
 
-  by_request : (fault : RequestFault) → IsWholeRefusal (refusals.Request fault) → IfRefusal (Unit {0}) (refusal_of (refusals.Request fault)) (IsTold None) → ⊥
+  by_request : (fault : RequestFault) → fault ≢ asking.OutOfMemory → IfRefusal (Unit {0}) (refusal_of (refusals.Request fault)) (IsTold None) → ⊥
   by_request (asking.UnknownWord word) h told = no_refusal (of_request (asking.UnknownWord word)) told
   by_request (asking.UnknownValue word) h told = no_refusal (of_request (asking.UnknownValue word)) told
   by_request (asking.Conflict word) h told = no_refusal (of_request (asking.Conflict word)) told
-  by_request asking.OutOfMemory h told = h
+  by_request asking.OutOfMemory h told = h refl
 
   by_evaluation : (Rest : Type 0) (refused : Option Text) (fault : Generating EvalFault) → IfRefusal Rest (option_map of_generation (unless (is_some refused) (is_some refused) fault)) (IsTold None) → (p : Text) × (refused ≡ Some p)
   by_evaluation Rest None fault told = absurd (no_refusal (of_generation fault) told)
   by_evaluation Rest (Some p) fault told = (p, refl)
 
-  by_choice : (fault : ChoiceFault EvalFault) → IsWholeRefusal (refusals.Generation (generating.NotChosen fault)) → IsToldOf (generating.NotChosen fault)
+  by_choice : (fault : ChoiceFault EvalFault) → IsChoiceRefusal fault → IsToldOf (generating.NotChosen fault)
       → (p : Text) × (pattern_of_choice fault ≡ Some p)
   by_choice (choosing.NoAlternative target set) h told = absurd (no_refusal (of_generation (not_chosen (choosing.NoAlternative target set))) told)
   by_choice (choosing.AmbiguousAlternative target set i k) h told = absurd (no_refusal (of_generation (not_chosen (choosing.AmbiguousAlternative target set i k))) told)
@@ -159,7 +78,7 @@ module _ (law : OneMeaning) (disk : Disk) (words echoes others : List Text) (pla
       by_evaluation (IsRefused (evaluating.At path line why)) (refused_by (evaluating.At path line why)) (not_chosen (choosing.Eval (evaluating.At path line why))) told
   by_choice choosing.OutOfMemory h told = absurd h
 
-  by_making : (fault : MakingFault EvalFault) → IsWholeRefusal (refusals.Generation (generating.NotMade fault)) → IsToldOf (generating.NotMade fault)
+  by_making : (fault : MakingFault EvalFault) → IsMakingRefusal fault → IsToldOf (generating.NotMade fault)
       → (p : Text) × (pattern_of_making fault ≡ Some p)
   by_making (making.NoChain from to) h told = absurd (no_refusal (of_generation (not_made (made.no_chain from to))) told)
   by_making (making.TwoChains from to first second) h told = absurd (no_refusal (of_generation (not_made (made.two_chains from to first second))) told)
@@ -172,7 +91,7 @@ module _ (law : OneMeaning) (disk : Disk) (words echoes others : List Text) (pla
       by_evaluation (IsRefused (evaluating.At path line why)) (refused_by (evaluating.At path line why)) (not_made (made.eval (evaluating.At path line why))) told
   by_making making.OutOfMemory h told = absurd h
 
-  by_generation : (fault : GenFault EvalFault) → IsWholeRefusal (refusals.Generation fault) → IsToldOf fault
+  by_generation : (fault : GenFault EvalFault) → IsGenRefusal fault → IsToldOf fault
       → (p : Text) × (pattern_of_generation fault ≡ Some p)
   by_generation (generating.NoTarget name) h told = absurd (no_refusal (of_generation (no_target name)) told)
   by_generation (generating.TargetCycle targets) h told = absurd (no_refusal (of_generation (target_cycle targets)) told)
@@ -181,7 +100,7 @@ module _ (law : OneMeaning) (disk : Disk) (words echoes others : List Text) (pla
   by_generation (generating.NotMade fault) h told = by_making fault h told
   by_generation generating.OutOfMemory h told = absurd h
 
-  pub pattern_refused : (why : PlanRefusal) → IsWholeRefusal why → IsPrepared disk words others (Err (stops.Refused why)) → IsPatternRefused disk words (answers.Refused (fault_of why))
+  pub pattern_refused : (why : PlanRefusal) → IsPlanRefusal why → IsPrepared disk words others (Err (stops.Refused why)) → IsPatternRefused disk words (answers.Refused (faults.Plan why))
   pattern_refused (refusals.Load fault) h told = (by_load fault (load_found fault h) told, (others, told))
   pattern_refused (refusals.Request fault) h told = absurd (by_request fault h told)
   pattern_refused (refusals.Generation fault) h told = (by_generation fault h told, (others, told))

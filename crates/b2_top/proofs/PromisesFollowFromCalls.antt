@@ -104,9 +104,7 @@ module _ (made : Made) (asking : Asking) (before after : Outside) (disk later : 
   did : (result : Answer) → HappenedFor made asking before after disk later result → Did
   did answers.Ok h = inr (all_went, h)
   did (answers.Failed lists) h = inr (some_failed (lists_of lists), h)
-  did (answers.Refused (faults.Load fault)) h = inl h.0
-  did (answers.Refused (faults.Request fault)) h = inl h.0
-  did (answers.Refused (faults.Gen fault)) h = inl h.0
+  did (answers.Refused (faults.Plan why)) h = inl h.0
   did (answers.Refused (faults.Jam fault)) h = inl h.0
   did (answers.Refused (faults.StepCycle list)) h = inr (step_cycle list, h)
   did (answers.Refused (faults.TooBig path size)) h = inr (too_big path size, h)
@@ -286,9 +284,7 @@ module _ (asking : Asking) (law : IsLawful asking) (made : Made) (before after :
           fresh disk later s all_went b plan first log events is_first p are is_log within (h disk later s all_went b plan first log events is_first p are is_log within).told.0
       go (answers.Failed lists) e end b =
           fresh disk later s (some_failed (lists_of lists)) b plan first log events is_first p are is_log within (h disk later s (some_failed (lists_of lists)) b plan first log events is_first p are is_log within).told.0
-      go (answers.Refused (faults.Load fault)) e end b = absurd end
-      go (answers.Refused (faults.Request fault)) e end b = absurd end
-      go (answers.Refused (faults.Gen fault)) e end b = absurd end
+      go (answers.Refused (faults.Plan why)) e end b = absurd end
       go (answers.Refused (faults.Jam fault)) e end b = absurd end
       go (answers.Refused (faults.StepCycle list)) e end b =
           fresh disk later s (step_cycle list) b plan first log events is_first p are is_log within (h disk later s (step_cycle list) b plan first log events is_first p are is_log within).told.0
@@ -345,9 +341,7 @@ module _ (asking : Asking) (law : IsLawful asking) (made : Made) (before after :
         let told = (updated a b).told in
         absurd (nothing_lacks (done_update a b) (updated a b).events b.apart (law.1 b.plan.command b.plan.asked) told.0.run (here a b CleanIsDefined should.defined)
         (none_failed a b) (lists_of lists) told.2 told.3)
-    complete_by (answers.Refused (faults.Load fault)) b patterns = inr (patterns should.plan)
-    complete_by (answers.Refused (faults.Request fault)) b patterns = inr (patterns should.plan)
-    complete_by (answers.Refused (faults.Gen fault)) b patterns = inr (patterns should.plan)
+    complete_by (answers.Refused (faults.Plan why)) b patterns = inr (patterns should.plan)
     complete_by (answers.Refused (faults.Jam fault)) b patterns = inr (patterns should.plan)
     complete_by (answers.Refused (faults.StepCycle list)) b patterns =
         let a = step_cycle list in

@@ -82,9 +82,7 @@ none_open = record {
 
 -- the refusal comes before anything is started
 abbrev pub IsEarly : Fault → Type 0
-IsEarly (faults.Load fault) = Unit {0}
-IsEarly (faults.Request fault) = Unit {0}
-IsEarly (faults.Gen fault) = Unit {0}
+IsEarly (faults.Plan why) = Unit {0}
 IsEarly (faults.Jam fault) = Unit {0}
 IsEarly (faults.StepCycle list) = ⊥
 IsEarly (faults.TooBig path size) = ⊥
@@ -205,42 +203,32 @@ module _ (made : Made) (asking : Asking) (h0 h1 : Outside) (o0 o1 : Output) (idl
   -- ---- a refusal
 
   refused_by : (fault : Fault) → IsEarly fault → (echoes : List Word) (disk : Disk) → HasNoPlanFor asking disk echoes fault → RefusedFor made asking h0 h1 disk disk fault
-  refused_by (faults.Load fault) e echoes disk c = (still, (echoes, c))
-  refused_by (faults.Request fault) e echoes disk c = (still, (echoes, c))
-  refused_by (faults.Gen fault) e echoes disk c = (still, (echoes, c))
+  refused_by (faults.Plan why) e echoes disk c = (still, (echoes, c))
   refused_by (faults.Jam fault) e echoes disk c = (still, (echoes, c))
   refused_by (faults.StepCycle list) e echoes disk c = absurd e
   refused_by (faults.TooBig path size) e echoes disk c = absurd e
 
   told_by : (fault : Fault) → IsEarly fault → (disk : Disk) (events : List ChildEvent) → WroteEarly (moment h0 o0) (moment h1 o1) events (IsRefusalReport asking disk fault)
       → RefusalTold made asking (moment h0 o0) (moment h1 o1) disk disk events fault
-  told_by (faults.Load fault) e disk events w = w
-  told_by (faults.Request fault) e disk events w = w
-  told_by (faults.Gen fault) e disk events w = w
+  told_by (faults.Plan why) e disk events w = w
   told_by (faults.Jam fault) e disk events w = w
   told_by (faults.StepCycle list) e disk events w = absurd e
   told_by (faults.TooBig path size) e disk events w = absurd e
 
   starts_by : (fault : Fault) → IsEarly fault → RefusedStill fault h0 h1
-  starts_by (faults.Load fault) e = still
-  starts_by (faults.Request fault) e = still
-  starts_by (faults.Gen fault) e = still
+  starts_by (faults.Plan why) e = still
   starts_by (faults.Jam fault) e = still
   starts_by (faults.StepCycle list) e = absurd e
   starts_by (faults.TooBig path size) e = absurd e
 
   patterns_by : (fault : Fault) (disk : Disk) → OnlyPattern asking disk fault → OnlyPatternRefused asking disk fault
-  patterns_by (faults.Load fault) disk f = f
-  patterns_by (faults.Request fault) disk f = f
-  patterns_by (faults.Gen fault) disk f = f
+  patterns_by (faults.Plan why) disk f = f
   patterns_by (faults.Jam fault) disk f = f
   patterns_by (faults.StepCycle list) disk f = tt
   patterns_by (faults.TooBig path size) disk f = tt
 
   turns_by : (fault : Fault) → IsEarly fault → TurnsFor asking.command h0 h1 (answers.Refused fault)
-  turns_by (faults.Load fault) e = no_turns (answers.Refused (faults.Load fault)) (λ e. cc) refl
-  turns_by (faults.Request fault) e = no_turns (answers.Refused (faults.Request fault)) (λ e. cc) refl
-  turns_by (faults.Gen fault) e = no_turns (answers.Refused (faults.Gen fault)) (λ e. cc) refl
+  turns_by (faults.Plan why) e = no_turns (answers.Refused (faults.Plan why)) (λ e. cc) refl
   turns_by (faults.Jam fault) e = no_turns (answers.Refused (faults.Jam fault)) (λ e. cc) refl
   turns_by (faults.StepCycle list) e = absurd e
   turns_by (faults.TooBig path size) e = absurd e

@@ -1,14 +1,9 @@
--- What holds of every visible disk is told: of bytes that were written, and of the cause of a refusal.
-use Rattle.std.proofs.Common.{◌≡◌, ℕ, List, ◌++◌, Option, Some, None, IfSome, Err, ap}
+-- What holds of every visible disk is told of bytes that were written.
+use Rattle.std.proofs.Common.{◌≡◌, ℕ, List, ◌++◌, Option, Some, None, IfSome, ap}
 use Rattle.std.specs.Option.{option_map}
 use Rattle.b2_host.specs.Disks.{Disk}
 use Rattle.b2_host.specs.Output.{Output, with_written}
-use Rattle.b2_prepare.specs.Preparing.{IsPrepared}
-use Rattle.b2_prepare.specs.declared.refusal.PlanRefusal.{PlanRefusal}
-use Rattle.b2_prepare.specs.declared.refusal.PlanRefusal.TheVariants as refusals
-use Rattle.b2_prepare.specs.declared.refusal.PlanStop.TheVariants as stops
 use Rattle.b2_runs.specs.Moments.{Moment}
-use Rattle.b2_top.specs.RefusalCauses.{fault_of, HasCause}
 use Rattle.b2_top.specs.BetweenMoments.{WrittenTold}
 
 pub if_map : {P Q : Disk → Type 0} (d : Option Disk) → ((disk : Disk) → P disk → Q disk) → IfSome d P → IfSome d Q
@@ -35,9 +30,3 @@ text_of bytes x y p = ap (λ (o : Output). o.written) p
 
 pub faults_of : (bytes : List ℕ) (x y : Output) → y ≡ with_written bytes x → y.faults ≡ x.faults
 faults_of bytes x y p = ap (λ (o : Output). o.faults) p
-
--- a refusal has its cause
-pub has_cause : (disk : Disk) (free echoes : List (List ℕ)) (why : PlanRefusal) → IsPrepared disk free echoes (Err (stops.Refused why)) → HasCause disk free echoes (fault_of why)
-has_cause disk free echoes (refusals.Load fault) h = h
-has_cause disk free echoes (refusals.Request fault) h = h
-has_cause disk free echoes (refusals.Generation fault) h = h

@@ -57,9 +57,7 @@ HappenedTold made words before after result = WhatHappened made (build_of words)
 
 -- every refusal but that of a step cycle, or of a file that is too big for the update, comes before anything is started
 abbrev pub RefusedStill : Fault → Outside → Outside → Type 0
-RefusedStill (faults.Load fault) before after = StaysStill before after
-RefusedStill (faults.Request fault) before after = StaysStill before after
-RefusedStill (faults.Gen fault) before after = StaysStill before after
+RefusedStill (faults.Plan why) before after = StaysStill before after
 RefusedStill (faults.Jam fault) before after = StaysStill before after
 RefusedStill (faults.StepCycle list) before after = ⊤
 RefusedStill (faults.TooBig path size) before after = ⊤
@@ -188,9 +186,7 @@ AreKept u events now log = (quit : Bool) (jobs k i : ℕ) (front rest : List Chi
 
 -- the answer is Ok, Failed or a step cycle: the update has come to its end
 abbrev pub IsOfCycle : Fault → Type 0
-IsOfCycle (faults.Load fault) = ⊥
-IsOfCycle (faults.Request fault) = ⊥
-IsOfCycle (faults.Gen fault) = ⊥
+IsOfCycle (faults.Plan why) = ⊥
 IsOfCycle (faults.Jam fault) = ⊥
 IsOfCycle (faults.StepCycle list) = ⊤
 IsOfCycle (faults.TooBig path size) = ⊥

@@ -1,13 +1,12 @@
 -- What is asked for, and of what: a build of the project of the folder, or of the graph of a Jam file.
-use Rattle.std.specs.Prelude.{◌≡◌, ◌≢◌, ℕ, List, [], Option, Some, None, Ok, Err}
+use Rattle.std.specs.Prelude.{◌≡◌, ℕ, List, [], Option, Some, None, Ok, Err}
 use Rattle.b2_base.specs.Segments.{normal_of}
 use Rattle.b2_host.specs.Disks.{Disk}
 use Rattle.b2_prepare.specs.Meaning.{BeginLoad, AsksTests, Means}
 use Rattle.b2_generate.specs.Planning.{Planned}
 use Rattle.b2_refusals.specs.declared.fault.Fault.{Fault}
 use Rattle.b2_refusals.specs.declared.fault.Fault.TheVariants as faults
-use Rattle.b2_refusals.specs.Wholes.{IsLoadRefusal, IsGenRefusal, IsJamRefusal}
-use Rattle.b2_props.specs.declared.request_fault.RequestFault.TheVariants as requesting
+use Rattle.b2_refusals.specs.Wholes.{IsPlanRefusal, IsJamRefusal}
 use Rattle.b2_command_line.specs.Words.{Word}
 use Rattle.b2_command_line.specs.JamWords.{jam_reading}
 use Rattle.b2_command_line.specs.declared.jam.JamWords.{JamWords}
@@ -85,9 +84,7 @@ BeginsLoad (jam_file file) disk words lines = BeginJamLoad disk file lines
 
 -- a Jam file and words come to this fault, after these lines
 abbrev pub HasJamCause : Word → Disk → List Word → List Word → Fault → Type 0
-HasJamCause file disk words echoes (faults.Load fault) = ⊥
-HasJamCause file disk words echoes (faults.Request fault) = ⊥
-HasJamCause file disk words echoes (faults.Gen fault) = ⊥
+HasJamCause file disk words echoes (faults.Plan why) = ⊥
 HasJamCause file disk words echoes (faults.Jam fault) = IsJamPrepared disk file words echoes (Err fault)
 HasJamCause file disk words echoes (faults.StepCycle list) = ⊥
 HasJamCause file disk words echoes (faults.TooBig path size) = ⊥
@@ -99,12 +96,8 @@ HasCauseIn (jam_file file) disk words echoes fault = HasJamCause file disk words
 -- A refusal of what is asked for from there: no fault of the host and no out of memory is within it. No project is refused as a Jam
 -- file is, and no Jam file as a project.
 abbrev pub IsWholeFor : Fault → Source → Type 0
-IsWholeFor (faults.Load fault) project = IsLoadRefusal fault
-IsWholeFor (faults.Load fault) (jam_file file) = ⊥
-IsWholeFor (faults.Request fault) project = fault ≢ requesting.OutOfMemory
-IsWholeFor (faults.Request fault) (jam_file file) = ⊥
-IsWholeFor (faults.Gen fault) project = IsGenRefusal fault
-IsWholeFor (faults.Gen fault) (jam_file file) = ⊥
+IsWholeFor (faults.Plan why) project = IsPlanRefusal why
+IsWholeFor (faults.Plan why) (jam_file file) = ⊥
 IsWholeFor (faults.Jam fault) project = ⊥
 IsWholeFor (faults.Jam fault) (jam_file file) = IsJamRefusal fault
 IsWholeFor (faults.StepCycle list) source = Unit {0}

@@ -64,9 +64,7 @@ module _ (made : Made) (asking : Asking) (before after : Outside) (disk later : 
 
   -- a refusal: a step cycle and a file that is too big come in an update, any other before it
   abbrev pub RefusedFor : Fault → Type 0
-  RefusedFor (faults.Load fault) = IsRefusedEarly (faults.Load fault)
-  RefusedFor (faults.Request fault) = IsRefusedEarly (faults.Request fault)
-  RefusedFor (faults.Gen fault) = IsRefusedEarly (faults.Gen fault)
+  RefusedFor (faults.Plan why) = IsRefusedEarly (faults.Plan why)
   RefusedFor (faults.Jam fault) = IsRefusedEarly (faults.Jam fault)
   RefusedFor (faults.StepCycle list) = HasBuiltFor (step_cycle list)
   RefusedFor (faults.TooBig path size) = HasBuiltFor (too_big path size)
@@ -105,9 +103,7 @@ LeavesClean made words before after = LeavesCleanFor made (build_of words) befor
 
 -- The answer of the update in a call. Where there was none it stands like that of a fault: it names no step.
 abbrev pub run_refused : Fault → UpdateAnswer
-run_refused (faults.Load fault) = host_fault
-run_refused (faults.Request fault) = host_fault
-run_refused (faults.Gen fault) = host_fault
+run_refused (faults.Plan why) = host_fault
 run_refused (faults.Jam fault) = host_fault
 run_refused (faults.StepCycle list) = step_cycle list
 run_refused (faults.TooBig path size) = too_big path size

@@ -146,9 +146,7 @@ CauseTold words before result = IfSome before.disk (λ disk. CausedBy words disk
 
 -- an answer that an explanation may have
 abbrev pub IsOfExplaining : Fault → Type 0
-IsOfExplaining (faults.Load fault) = ⊤
-IsOfExplaining (faults.Request fault) = ⊤
-IsOfExplaining (faults.Gen fault) = ⊤
+IsOfExplaining (faults.Plan why) = ⊤
 IsOfExplaining (faults.Jam fault) = ⊥
 IsOfExplaining (faults.StepCycle list) = ⊥
 IsOfExplaining (faults.TooBig path size) = ⊤

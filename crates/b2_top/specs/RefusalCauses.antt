@@ -12,27 +12,19 @@ use Rattle.b2_making.specs.declared.fault.MakingFault.{MakingFault}
 use Rattle.b2_making.specs.declared.fault.MakingFault.TheVariants as making
 use Rattle.b2_generate.specs.declared.fault.GenFault.{GenFault}
 use Rattle.b2_generate.specs.declared.fault.GenFault.TheVariants as generating
-use Rattle.b2_prepare.specs.declared.refusal.PlanRefusal.{PlanRefusal}
-use Rattle.b2_prepare.specs.declared.refusal.PlanRefusal.TheVariants as refusals
 use Rattle.b2_prepare.specs.declared.refusal.PlanStop.TheVariants as stops
 use Rattle.b2_prepare.specs.Preparing.{IsPrepared}
 use Rattle.b2_refusals.specs.declared.fault.Fault.{Fault}
 use Rattle.b2_refusals.specs.declared.fault.Fault.TheVariants as faults
+use Rattle.b2_refusals.specs.declared.fault.PlanRefusal.{PlanRefusal}
+use Rattle.b2_refusals.specs.declared.fault.PlanRefusal.TheVariants as refusals
 use Rattle.b2_top.specs.declared.answer.Answer.{Answer}
 use Rattle.b2_top.specs.declared.answer.Answer.TheVariants as answers
-
--- the refusal as the program's own
-abbrev pub fault_of : PlanRefusal → Fault
-fault_of (refusals.Load fault) = faults.Load fault
-fault_of (refusals.Request fault) = faults.Request fault
-fault_of (refusals.Generation fault) = faults.Gen fault
 
 -- The fault is what the files of a disk and the free words come to, after these lines of ECHO; that a pattern is refused though it
 -- reads as one is an input of it.
 abbrev pub HasCause : Disk → List Text → List Text → Fault → Type 0
-HasCause disk words echoes (faults.Load fault) = IsPrepared disk words echoes (Err (stops.Refused (refusals.Load fault)))
-HasCause disk words echoes (faults.Request fault) = IsPrepared disk words echoes (Err (stops.Refused (refusals.Request fault)))
-HasCause disk words echoes (faults.Gen fault) = IsPrepared disk words echoes (Err (stops.Refused (refusals.Generation fault)))
+HasCause disk words echoes (faults.Plan why) = IsPrepared disk words echoes (Err (stops.Refused why))
 HasCause disk words echoes (faults.Jam fault) = ⊥
 HasCause disk words echoes (faults.StepCycle list) = ⊥
 HasCause disk words echoes (faults.TooBig path size) = ⊥
@@ -52,9 +44,13 @@ pattern_of_generation (generating.NotChosen fault) = pattern_of_choice fault
 pattern_of_generation (generating.NotMade fault) = pattern_of_making fault
 pattern_of_generation _ = None
 
+abbrev pub pattern_of_plan : PlanRefusal → Option Text
+pattern_of_plan (refusals.Load fault) = load_refused_by fault
+pattern_of_plan (refusals.Request fault) = None
+pattern_of_plan (refusals.Generation fault) = pattern_of_generation fault
+
 abbrev pub pattern_of : Fault → Option Text
-pattern_of (faults.Load fault) = load_refused_by fault
-pattern_of (faults.Gen fault) = pattern_of_generation fault
+pattern_of (faults.Plan why) = pattern_of_plan why
 pattern_of (faults.Jam fault) = refused_in fault
 pattern_of _ = None
 

@@ -103,9 +103,7 @@ module _ (made : Made) (asking : Asking) (before after : Moment) (disk later : D
 
   -- the report of a refusal
   abbrev pub RefusalTold : Fault → Type 0
-  RefusalTold (faults.Load fault) = WroteEarly before after events (IsRefusalReport asking disk (faults.Load fault))
-  RefusalTold (faults.Request fault) = WroteEarly before after events (IsRefusalReport asking disk (faults.Request fault))
-  RefusalTold (faults.Gen fault) = WroteEarly before after events (IsRefusalReport asking disk (faults.Gen fault))
+  RefusalTold (faults.Plan why) = WroteEarly before after events (IsRefusalReport asking disk (faults.Plan why))
   RefusalTold (faults.Jam fault) = WroteEarly before after events (IsRefusalReport asking disk (faults.Jam fault))
   RefusalTold (faults.StepCycle list) = WroteUpdate (step_cycle list) IsAllOf
   RefusalTold (faults.TooBig path size) = WroteUpdate (too_big path size) IsAllOf

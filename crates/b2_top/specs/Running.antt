@@ -99,9 +99,7 @@ OnlyPattern asking disk fault = (plan : HasPlanFor asking disk)
     → IsPatternRefusedIn asking.source disk plan.command.words (answers.Refused fault)
 
 abbrev pub OnlyPatternRefused : Asking → Disk → Fault → Type 0
-OnlyPatternRefused asking disk (faults.Load fault) = OnlyPattern asking disk (faults.Load fault)
-OnlyPatternRefused asking disk (faults.Request fault) = OnlyPattern asking disk (faults.Request fault)
-OnlyPatternRefused asking disk (faults.Gen fault) = OnlyPattern asking disk (faults.Gen fault)
+OnlyPatternRefused asking disk (faults.Plan why) = OnlyPattern asking disk (faults.Plan why)
 OnlyPatternRefused asking disk (faults.Jam fault) = OnlyPattern asking disk (faults.Jam fault)
 OnlyPatternRefused asking disk (faults.StepCycle list) = ⊤
 OnlyPatternRefused asking disk (faults.TooBig path size) = ⊤

@@ -130,9 +130,7 @@ CauseTold words before result = IfSome before.disk (λ disk. CausedBy words disk
 
 -- the fault is one of the load, the request or generation
 abbrev pub IsOfPlanning : Fault → Type 0
-IsOfPlanning (faults.Load fault) = ⊤
-IsOfPlanning (faults.Request fault) = ⊤
-IsOfPlanning (faults.Gen fault) = ⊤
+IsOfPlanning (faults.Plan why) = ⊤
 IsOfPlanning (faults.Jam fault) = ⊥
 IsOfPlanning (faults.StepCycle list) = ⊥
 IsOfPlanning (faults.TooBig path size) = ⊥

@@ -11,7 +11,6 @@ use Rattle.b2_prepare.specs.declared.refusal.PlanStop.TheVariants as stops
 use Rattle.b2_top.specs.declared.answer.Answer.{Answer}
 use Rattle.b2_top.specs.declared.answer.Answer.TheVariants as answers
 use Rattle.b2_refusals.specs.declared.fault.Fault.TheVariants as faults_of
-use Rattle.b2_top.specs.RefusalCauses.{fault_of}
 use Rattle.jam_graph.specs.declared.fault.JamFault.{JamFault}
 use Rattle.jam_graph.specs.declared.fault.JamFault.TheVariants as jam
 use Rattle.b2_top.specs.Reports.{refusal_report, fault_report}
@@ -59,7 +58,7 @@ pub data SaysFault (bytes : List ℕ) (before after : Output) (result : Answer) 
 -- the answer where there is no plan
 abbrev pub AnswersStop : List (List ℕ) → PlanStop → Output → Output → Answer → Type 0
 AnswersStop echoes (stops.Refused why) before after result =
-    Says (answers.Refused (fault_of why)) (refusal_report echoes [] (fault_of why)) before after result
+    Says (answers.Refused (faults_of.Plan why)) (refusal_report echoes [] (faults_of.Plan why)) before after result
 AnswersStop echoes stops.HostInLoad before after result = SaysFault (fault_report echoes) before after result
 AnswersStop echoes stops.HostInGeneration before after result = SaysFault (fault_report echoes) before after result
 AnswersStop echoes stops.OutOfMemory before after result = (result ≡ answers.OutOfMemory) × (after ≡ before)

@@ -1,10 +1,8 @@
 //! What the answer of a call is, and what is written with it.
 ghost use Rattle.std.specs.Prelude.{◌≡◌};
 ghost use Rattle.b2_prepare.specs.Preparing.{IsWhole as IsWholeStop};
-ghost use Rattle.b2_prepare.specs.Refusals.{IsWholeRefusal};
 ghost use Rattle.b2_refusals.specs.Lines.{usage_line};
 ghost use Rattle.b2_refusals.specs.Wholes.{IsWhole};
-ghost use Rattle.b2_top.specs.RefusalCauses.{fault_of};
 ghost use Rattle.b2_top.specs.Reports.{refusal_report, fault_report};
 ghost use Rattle.b2_top.specs.Writing.{unwritten, Says, SaysFault, AnswersStop, AnswersJam};
 ghost use Rattle.jam_graph.specs.Loading.{IsWhole as IsWholeJam};
@@ -15,7 +13,7 @@ use b2_base::text::Text;
 use b2_host::fault::IoFault;
 use b2_host::sink::Sink;
 use b2_plan::step::Step;
-use b2_prepare::refusal::{PlanRefusal, PlanStop};
+use b2_prepare::refusal::PlanStop;
 use b2_refusals::fault::Fault;
 use b2_refusals::lines::usage_line;
 use jam_graph::fault::JamFault;
@@ -73,25 +71,13 @@ pub fn tell_host_fault<S: Sink>(alloc: Global, echoes: &[Text], out: &mut S) -> 
     }
 }
 
-/// The refusal as the program's own.
-pub fn fault_of(refusal: PlanRefusal) -> Fault
-    ensures fault { result ≡ fault_of refusal }
-    ensures whole { IsWholeRefusal refusal → IsWhole result }
-{
-    match refusal {
-        PlanRefusal::Load(fault) => Fault::Load(fault),
-        PlanRefusal::Request(fault) => Fault::Request(fault),
-        PlanRefusal::Generation(fault) => Fault::Gen(fault),
-    }
-}
-
 /// Tells why there is no plan.
 pub fn tell_stop<S: Sink>(alloc: Global, echoes: &[Text], stop: PlanStop, out: &mut S) -> Answer
     requires { IsWholeStop stop }
     ensures { AnswersStop echoes.now stop (S.output out.old) (S.output out.new) result }
 {
     match stop {
-        PlanStop::Refused(refusal) => tell_refusal(alloc, echoes, &[], fault_of(refusal), out),
+        PlanStop::Refused(refusal) => tell_refusal(alloc, echoes, &[], Fault::Plan(refusal), out),
         PlanStop::HostInLoad | PlanStop::HostInGeneration => tell_host_fault(alloc, echoes, out),
         PlanStop::OutOfMemory => Answer::OutOfMemory,
     }

@@ -1,6 +1,6 @@
 use Rattle.std.proofs.Common.{◌<◌, ◌≤◌, length, refl, arith}
 use Rattle.b2_testing.proofs.MarksAreOfNumbers.{marked_more, marked_past}
-use Rattle.b2_testing.proofs.pass_list.Marks.mark.Goals as goal
+use Rattle.b2_testing.proofs.pass_list.MarkedNumbers.mark.Goals as goal
 
 pub returns-else-place-len : goal.returns-else-place-len
 returns-else-place-len c = λ size numbers are.
